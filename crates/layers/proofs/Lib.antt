@@ -1,0 +1,4 @@
+pub mod Alike
+pub mod Sequence
+pub mod WhitenedAnswers
+pub mod Keeping

@@ -1,0 +1,4 @@
+pub mod Whitening
+pub mod WhiteningLaws
+pub mod Layers
+pub mod LayerLaws

@@ -1,0 +1,5 @@
+pub mod Chips
+pub mod Codes
+pub mod Promises
+pub mod Judging
+pub mod Straight

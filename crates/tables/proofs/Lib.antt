@@ -1,0 +1,3 @@
+pub mod Distances
+pub mod Parts
+pub mod Table
