@@ -88,3 +88,160 @@ def alternating(even, odd):
 
 def fours(chips):
     return " ".join("".join(map(str, chips[i : i + 4])) for i in range(0, len(chips), 4))
+
+
+def octet_bits(octets):
+    return [o >> i & 1 for o in octets for i in range(8)]
+
+
+def blocks(length):
+    """N_B."""
+    return -(-(8 * length + 6) // 88)
+
+
+def message(psdu):
+    return octet_bits(psdu) + [0] * (88 * blocks(len(psdu)) - 8 * len(psdu))
+
+
+def code_bits(m):
+    """The two code bits of each message bit."""
+    at = lambda k: m[k] if k >= 0 else 0
+    out = []
+    for k in range(len(m)):
+        out.append(at(k) ^ at(k - 2) ^ at(k - 3) ^ at(k - 5) ^ at(k - 6))
+        out.append(at(k) ^ at(k - 1) ^ at(k - 2) ^ at(k - 3) ^ at(k - 6))
+    return out
+
+
+def moved(k):
+    return 16 * ((175 - k) % 11) + (175 - k) // 11
+
+
+def interleave(code):
+    out = [None] * len(code)
+    for j, bit in enumerate(code):
+        out[j // 176 * 176 + moved(j % 176)] = bit
+    return out
+
+
+def differential(raw, last):
+    out = []
+    for bit in raw:
+        last ^= bit
+        out.append(last)
+    return out
+
+
+def spread(line, sent):
+    chips = []
+    for p in range(len(sent) // line.g):
+        group = sent[p * line.g : (p + 1) * line.g]
+        chips += line.word(p, sum(b << i for i, b in enumerate(group)))
+    return chips
+
+
+BANDS = {
+    780: ["64x1", 8],
+    868: ["16x1k0", 4],
+    915: ["64x1", 8],
+    2450: ["128x1", 8],
+}
+
+THOUSAND = {
+    0: (alternating(table("16x1k0"), table("16x1k1")), True),
+    1: (table("16x4"), False),
+    2: (whitened(table("8x4")), False),
+    3: (whitened(straight), False),
+}
+
+MODES = {
+    780: THOUSAND,
+    915: THOUSAND,
+    868: {0: (whitened(table("4x1")), True), 1: (whitened(straight), False)},
+    2450: {
+        0: (alternating(table("32x1k0"), table("32x1k1")), True),
+        1: (table("32x4"), False),
+        2: (table("16x4"), False),
+        3: (whitened(table("8x4")), False),
+    },
+}
+
+
+def phr(mode, length):
+    p = [0] * 16
+    p[2], p[3] = mode & 1, mode >> 1
+    for i in range(11):
+        p[5 + i] = length >> i & 1
+    p[0] = sum(p[2:9]) & 1
+    p[1] = sum(p[9:16]) & 1
+    value = sum(b << i for i, b in enumerate(p))
+    return [value & 255, value >> 8]
+
+
+def header(band, mode, length):
+    """The header's chips and its last encoded bit."""
+    code, preamble = BANDS[band]
+    encoded = differential(octet_bits([0] * preamble + [0xA7] + phr(mode, length)), 0)
+    return spread(table(code), encoded), encoded[-1]
+
+
+def psdu_chips(line, is_differential, psdu, last):
+    raw = interleave(code_bits(message(psdu)))
+    return spread(line, differential(raw, last) if is_differential else raw)
+
+
+def observe(line, is_differential, chips, last):
+    """The observed code bits, each with its doubt."""
+    encoded = []
+    for p in range(len(chips) // line.n):
+        value, tied = line.despread(p, chips[p * line.n : (p + 1) * line.n])
+        encoded += [(value >> i & 1, tied) for i in range(line.g)]
+    if is_differential:
+        decoded = []
+        before = (last, False)
+        for bit in encoded:
+            decoded.append((bit[0] ^ before[0], bit[1] or before[1]))
+            before = bit
+        encoded = decoded
+    return [encoded[j // 176 * 176 + moved(j % 176)] for j in range(len(encoded))]
+
+
+def count_cost(cost, seen, claimed):
+    return cost + (seen[0] != claimed)
+
+
+def graded_cost(cost, seen, claimed):
+    sure, doubtful = cost
+    if seen[0] == claimed:
+        return cost
+    return (sure, doubtful + 1) if seen[1] else (sure + 1, doubtful)
+
+
+def step_claims(six, bit):
+    """The two code bits of a bit after the six before it, the newest first."""
+    return (
+        bit ^ six[1] ^ six[2] ^ six[4] ^ six[5],
+        bit ^ six[0] ^ six[1] ^ six[2] ^ six[5],
+    )
+
+
+def decode(seen, length, charge, nothing, end_anywhere=False):
+    """The nearest PSDU of a length and its cost; of equal ones, the one with 0 at the latest bit where they differ.
+
+    Every path is kept by its last six bits, with its cost and its message as a number whose latest bit counts most.
+    With end_anywhere the best path over all end states is taken, and tail and pads are left free: what a careless decoder does.
+    """
+    paths = {(0,) * 6: (nothing, 0)}
+    for k in range(len(seen) // 2):
+        choices = (0, 1) if end_anywhere or k < 8 * length else (0,)
+        after = {}
+        for six, (cost, number) in paths.items():
+            for bit in choices:
+                a, b = step_claims(six, bit)
+                new = (charge(charge(cost, seen[2 * k], a), seen[2 * k + 1], b), number | bit << k)
+                state = (bit,) + six[:5]
+                if state not in after or new < after[state]:
+                    after[state] = new
+        paths = after
+    cost, number = min(paths.values()) if end_anywhere else paths[(0,) * 6]
+    return [number >> 8 * i & 255 for i in range(length)], cost

@@ -1,0 +1,5 @@
+pub mod Bits
+pub mod Message
+pub mod Convolution
+pub mod Interleaving
+pub mod Differential

@@ -1,0 +1,4 @@
+pub mod Counts
+pub mod Reaches
+pub mod TwoKinds
+pub mod Tallies

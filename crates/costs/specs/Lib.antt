@@ -1,0 +1,4 @@
+pub mod Kind
+pub mod Observed
+pub mod Kinds
+pub mod Differences

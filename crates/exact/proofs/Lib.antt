@@ -1,0 +1,4 @@
+pub mod Counting
+pub mod Alone
+pub mod Few
+pub mod Untouched

@@ -1,0 +1,5 @@
+pub mod Parities
+pub mod Singles
+pub mod Bands
+pub mod Phrs
+pub mod Back

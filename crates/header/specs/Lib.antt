@@ -1,0 +1,6 @@
+pub mod Phr
+pub mod Headers
+pub mod Reading
+pub mod Writing
+pub mod View
+pub mod Laws

@@ -1,0 +1,5 @@
+pub mod Messages
+pub mod Nearest
+pub mod Trellis
+pub mod Path
+pub mod Distance

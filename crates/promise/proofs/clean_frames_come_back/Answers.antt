@@ -1,0 +1,8 @@
+use Rattle.costs.specs.Kinds.{countKind, gradedKind}
+use Rattle.costs.proofs.TwoKinds.{count-laws, graded-laws}
+use Rattle.trellis.proofs.Frames.{blocks-run}
+use Rattle.promise.proofs.Clean.{clean-by-count, clean-by-graded}
+use Rattle.promise.proofs.clean_frames_come_back.Needs as need
+
+pub returns : need.returns
+returns c = record { count = clean-by-count (blocks-run countKind count-laws); graded = clean-by-graded (blocks-run gradedKind graded-laws) }

@@ -1,0 +1,4 @@
+pub mod Sent
+pub mod Clean
+pub mod Steps
+pub mod Whole

@@ -1,0 +1,5 @@
+pub mod Passing
+pub mod Steps
+pub mod Agreeing
+pub mod Numbers
+pub mod Promised

@@ -1,0 +1,5 @@
+pub mod Judging
+pub mod Receiver
+pub mod Runs
+pub mod Book
+pub mod Promise

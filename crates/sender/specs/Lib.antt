@@ -1,0 +1,4 @@
+pub mod Stored
+pub mod Sending
+pub mod View
+pub mod Runs

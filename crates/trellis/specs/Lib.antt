@@ -1,0 +1,4 @@
+pub mod Memory
+pub mod Block
+pub mod Trace
+pub mod Frame

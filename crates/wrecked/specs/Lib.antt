@@ -1,0 +1,2 @@
+pub mod Wrecked
+pub mod Mended
