@@ -229,7 +229,8 @@ def decode(seen, length, charge, nothing, end_anywhere=False):
     """The nearest PSDU of a length and its cost; of equal ones, the one with 0 at the latest bit where they differ.
 
     Every path is kept by its last six bits, with its cost and its message as a number whose latest bit counts most.
-    With end_anywhere the best path over all end states is taken, and tail and pads are left free: what a careless decoder does.
+    With end_anywhere tail and pads are left free, and the cheapest end state is taken, the first by its number, newest bit
+    least, of several: what a careless decoder does.
     """
     paths = {(0,) * 6: (nothing, 0)}
     for k in range(len(seen) // 2):
@@ -243,5 +244,8 @@ def decode(seen, length, charge, nothing, end_anywhere=False):
                 if state not in after or new < after[state]:
                     after[state] = new
         paths = after
-    cost, number = min(paths.values()) if end_anywhere else paths[(0,) * 6]
+    end = (0,) * 6
+    if end_anywhere:
+        end = min(paths, key=lambda six: (paths[six][0], sum(b << i for i, b in enumerate(six))))
+    cost, number = paths[end]
     return [number >> 8 * i & 255 for i in range(length)], cost

@@ -13,6 +13,11 @@ use faults::Fault;
 use faults::FaultKind;
 use faults::Layer;
 
+// The least and the greatest length of a PSDU.
+pub const LEAST_LENGTH: u16 = 4;
+
+pub const MOST_LENGTH: u16 = 2047;
+
 // Whether a band has a mode.
 pub fn has_mode(band: Band, mode: RateMode) -> bool
     ensures answer { λ r. ⌜ r ≡ hasMode band mode ⌝ }
@@ -69,7 +74,7 @@ fn read_phr(band: Band, phr: u16) -> Result<(RateMode, u16), Fault>
         return Err(refusal(FaultKind::RateMode, mode.number() as usize));
     }
     let length = phr >> 5;
-    if length < 4 {
+    if length < LEAST_LENGTH {
         return Err(refusal(FaultKind::FrameLength, length as usize));
     }
     Ok((mode, length))

@@ -4,6 +4,8 @@ ghost use lib.ListN.{length};
 ghost use Rattle.header.specs.Headers.{preambleOctets, headerLength};
 ghost use Rattle.header.specs.Writing.{writeAnswer, writtenChips};
 use crate::bits::write_octets;
+use crate::fields::LEAST_LENGTH;
+use crate::fields::MOST_LENGTH;
 use crate::fields::has_mode;
 use crate::fields::phr_of;
 use crate::fields::refusal;
@@ -48,7 +50,7 @@ pub fn write_header(
     if !has_mode(band, mode) {
         return Err(refusal(FaultKind::RateMode, mode.number() as usize));
     }
-    if psdu_length < 4 || psdu_length > 2047 {
+    if psdu_length < LEAST_LENGTH as usize || psdu_length > MOST_LENGTH as usize {
         return Err(refusal(FaultKind::FrameLength, psdu_length));
     }
     let phr = phr_of(mode, psdu_length as u16);

@@ -3,14 +3,21 @@ ghost use mathlib.Core.Path.{_≡_};
 ghost use Prim.Native.Nat.{_≤_};
 ghost use lib.ListN.{length};
 ghost use Rattle.sender.specs.Sending.{sendable, checked, blocksToSend};
+use crate::coding::MESSAGE_BITS;
+use crate::coding::TAIL_BITS;
 use faults::Fault;
 use faults::FaultKind;
 use faults::Layer;
 
+// The fewest and the most octets of a PSDU.
+const LEAST_OCTETS: usize = 4;
+
+const MOST_OCTETS: usize = 2047;
+
 fn can_send(octets: usize) -> bool
     ensures { λ r. ⌜ r ≡ sendable octets ⌝ }
 {
-    octets >= 4 && octets <= 2047
+    octets >= LEAST_OCTETS && octets <= MOST_OCTETS
 }
 
 // Refuses a PSDU that cannot be sent.
@@ -35,7 +42,7 @@ pub fn blocks_to_send(octets: usize) -> u32
     ensures few { λ r. ⌜ r ≤ 187 ⌝ }
 {
     if can_send(octets) {
-        (8 * octets as u32 + 6).div_ceil(88)
+        (8 * octets + TAIL_BITS).div_ceil(MESSAGE_BITS) as u32
     } else {
         0
     }

@@ -9,6 +9,9 @@ ghost use Rattle.codebits.specs.Message.{messageBit};
 ghost use Rattle.codebits.specs.Interleaving.{originIn};
 ghost use Rattle.sender.specs.Stored.{lastSix, IsCoded};
 
+// The zeros that end a message.
+pub const TAIL_BITS: usize = 6;
+
 // The message bits and the code bits of a block.
 pub const MESSAGE_BITS: usize = 88;
 
@@ -26,7 +29,7 @@ fn message_bit(psdu: &[u8], k: usize) -> bool
 }
 
 // The two code bits of message bit `m`, after the six bits of the register, the newest first.
-fn code_pair(m: bool, register: [bool; 6]) -> (bool, bool)
+fn code_pair(m: bool, register: [bool; TAIL_BITS]) -> (bool, bool)
     ensures first { λ r. ⌜ r .0 ≡ m ⊕ getD register 1 false ⊕ getD register 2 false ⊕ getD register 4 false ⊕ getD register 5 false ⌝ }
     ensures second { λ r. ⌜ r .1 ≡ m ⊕ getD register 0 false ⊕ getD register 1 false ⊕ getD register 2 false ⊕ getD register 5 false ⌝ }
 {
@@ -35,7 +38,7 @@ fn code_pair(m: bool, register: [bool; 6]) -> (bool, bool)
 }
 
 // The register once message bit `m` has gone in.
-fn shifted(m: bool, register: [bool; 6]) -> [bool; 6]
+fn shifted(m: bool, register: [bool; TAIL_BITS]) -> [bool; TAIL_BITS]
     ensures { λ r. ⌜ r ≡ m ∷ getD register 0 false ∷ getD register 1 false ∷ getD register 2 false ∷ getD register 3 false ∷ getD register 4 false ∷ [] ⌝ }
 {
     let [b1, b2, b3, b4, b5, _] = register;
@@ -46,9 +49,9 @@ fn shifted(m: bool, register: [bool; 6]) -> [bool; 6]
 pub fn encode_block(
     psdu: &[u8],
     block: usize,
-    before: [bool; 6],
-    coded: &mut [bool; 176],
-) -> [bool; 6]
+    before: [bool; TAIL_BITS],
+    coded: &mut [bool; CODE_BITS],
+) -> [bool; TAIL_BITS]
     requires few { ⌜ block < 187 ⌝ }
     requires six { ⌜ before ≡ lastSix (messageBit (now psdu)) (88 * block) ⌝ }
     ensures six { λ r. ⌜ r ≡ lastSix (messageBit (now (psdu .entry))) (88 * (block + 1)) ⌝ }

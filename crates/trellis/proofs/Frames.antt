@@ -147,7 +147,6 @@ pub costs-length : {C : Type 0} (kind : Kind Observation C) (observed : List Obs
     length (costsAfter kind observed octets block costs) ≡ length costs
 unfolding costsAfter banks
 costs-length kind observed octets block costs room =
-    let cost = ran kind (observedAt observed) (8 * octets) (blockBits * block) (startOf kind block costs) in
     simp (length-append, length-drop, bank-length) (omega arith)
 
 pub words-length :
@@ -156,8 +155,7 @@ pub words-length :
 unfolding wordsAfter blockWords
 words-length kind observed octets block costs words room =
     let old : length (take (blockBits * block) words) ≡ blockBits * block = length-take-le (blockBits * block) words (omega arith) in
-    let new = length-map-counting (tookWord kind (observedAt observed) (8 * octets) (blockBits * block) (startOf kind block costs)) 0 blockBits in
-    simp (length-append, length-drop, old, new) (omega arith)
+    simp (length-append, length-drop, old) (omega arith)
 
 -- the whole frame
 module _ {C : Type 0} (kind : Kind Observation C) (octets : ℕ) (observed : ℕ → List Observation) (costs : List C) (words : List ℕ) where

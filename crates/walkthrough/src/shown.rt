@@ -14,6 +14,24 @@ pub fn chips_text(heap: Global, chips: &[u8]) -> Result<String, AllocError> {
     Ok(text)
 }
 
+// Octets in hexadecimal.
+pub fn hex_text(heap: Global, octets: &[u8]) -> Result<String, AllocError> {
+    let mut text = String::new(heap);
+    for octet in octets {
+        text.push(hex_digit(*octet / 16))?;
+        text.push(hex_digit(*octet % 16))?;
+    }
+    Ok(text)
+}
+
+fn hex_digit(n: u8) -> char {
+    if n < 10 {
+        char::from(b'0' + n)
+    } else {
+        char::from(b'a' + (n - 10) % 6)
+    }
+}
+
 // What became of a group.
 pub fn verdict(as_sent: bool, tied: bool) -> &'static str {
     match (as_sent, tied) {

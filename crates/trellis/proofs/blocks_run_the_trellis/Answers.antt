@@ -1,3 +1,4 @@
+-- Block by block, from the laws of the costs.
 use Rattle.trellis.proofs.Frames.{blocks-run}
 use Rattle.trellis.proofs.blocks_run_the_trellis.Needs as need
 

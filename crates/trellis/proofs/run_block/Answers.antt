@@ -1,3 +1,4 @@
+-- The steps of the block start from what begin leaves, and their words stand at the block's places.
 use mathlib.Core.Path.{_≡_, ap, _∙_}
 use mathlib.Core.List.{_++_}
 use mathlib.Core.Logic.{inr}

@@ -1,3 +1,4 @@
+-- A turn writes an octet, from the last on.
 use mathlib.Core.Path.{_≡_, sym, _∙_}
 use mathlib.Core.Logic.{inl, inr}
 use Prim.Native.Nat.{_+_, _-_, _*_, _<_}

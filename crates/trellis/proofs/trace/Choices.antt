@@ -1,3 +1,4 @@
+-- The octets from i on are written, and the trace has come to the state before them.
 use mathlib.Core.Path.{_≡_}
 use Prim.Native.Nat.{ℕ, _*_, _≤_, _<_}
 use lib.ListN.{getD, drop}

@@ -1,3 +1,4 @@
+-- After j bits the value is their number, and the trace has come to the state before them.
 use mathlib.Core.Path.{_≡_}
 use Prim.Native.Nat.{_+_, _-_, _*_}
 use Rattle.codebits.specs.Bits.{numberAt}

@@ -1,3 +1,4 @@
+-- One place further back a turn.
 use mathlib.Core.Path.{_≡_}
 use Prim.Native.Nat.{suc, _-_}
 use native.Mathlib.Omega.{arith}

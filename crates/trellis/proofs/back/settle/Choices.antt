@@ -1,3 +1,4 @@
+-- The trace has come back to place k.
 use Prim.Native.Nat.{_≤_}
 use Rattle.trellis.specs.Trace.{ComesTo}
 use Rattle.trellis.proofs.back.settle.Given as given

@@ -1,3 +1,4 @@
+-- The sums are those of the two code bits.
 use Rattle.nearest.specs.Trellis.{firstOf, secondOf}
 use Rattle.trellis.proofs.butterfly.claims.Needs as need
 

@@ -1,3 +1,4 @@
+-- A turn writes the costs of two states and notes their bits.
 use mathlib.Core.Path.{_≡_, refl, sym, ap, _∙_}
 use mathlib.Core.Bool.{cond}
 use Prim.Native.Nat.{suc, _+_, _*_, _^_, _<_, _≤_}

@@ -1,3 +1,4 @@
+-- The states of the butterflies so far have their costs, and the word their bits.
 use mathlib.Core.Path.{_≡_}
 use Prim.Native.Nat.{_+_, _*_}
 use Rattle.codebits.specs.Bits.{numberAt}

@@ -1,3 +1,4 @@
+-- Two halves make the step and its word.
 use mathlib.Core.Path.{_≡_, _∙_}
 use Prim.Native.Nat.{_+_}
 use native.Mathlib.Omega.{arith}

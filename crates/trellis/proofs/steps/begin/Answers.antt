@@ -1,3 +1,4 @@
+-- One state more costs nothing.
 use Prim.Native.Nat.{_<_}
 use native.Mathlib.Omega.{arith}
 use lib.ListN.{length}

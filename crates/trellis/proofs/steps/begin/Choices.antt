@@ -1,3 +1,4 @@
+-- The states so far cost nothing.
 use Rattle.trellis.specs.Memory.{Written}
 use Rattle.trellis.specs.Block.{startOf}
 use Rattle.trellis.proofs.steps.begin.Given as given

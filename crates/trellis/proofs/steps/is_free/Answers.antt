@@ -1,3 +1,4 @@
+-- The two tests are those of a free bit.
 use native.Mathlib.Omega.{arith}
 use Rattle.std.proofs.shelf.Ways.{tells}
 use Rattle.nearest.specs.Trellis.{free}

@@ -1,3 +1,4 @@
+-- A turn is two steps, there and back.
 use mathlib.Core.Path.{_≡_, refl, ap, _∙_}
 use Prim.Native.Nat.{suc, _+_, _*_, _<_}
 use native.Mathlib.Omega.{arith}

@@ -1,3 +1,4 @@
+-- The memory stands as it does after the steps so far.
 use Prim.Native.Nat.{_*_}
 use Rattle.trellis.specs.Memory.{costIn, observedAt}
 use Rattle.trellis.proofs.Running.{Running}
