@@ -1,3 +1,4 @@
 pub mod Sent
 pub mod Clean
+pub mod Chain
 pub mod Whole

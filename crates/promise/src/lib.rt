@@ -1,5 +1,6 @@
 // The promise of the receiver over every list of calls, whole, and clean frames that come back.
 ghost use Rattle.costs.specs.Kinds.{countKind, gradedKind};
+ghost use Rattle.promise.specs.Chain.{EveryChainReturns};
 ghost use Rattle.promise.specs.Clean.{CleanFramesComeBack};
 ghost use Rattle.promise.specs.Sent.{FourWrongBits, NineByDoubt, AcceptedClosesReturn};
 ghost use Rattle.promise.specs.Steps.{CallsAreSteps};
@@ -19,6 +20,14 @@ pub fn accepted_closes_return_what_was_sent() -> u8
 pub fn clean_frames_come_back() -> u8
     ensures count { λ _. ⌜ CleanFramesComeBack countKind ⌝ }
     ensures graded { λ _. ⌜ CleanFramesComeBack gradedKind ⌝ }
+{
+    0
+}
+
+// So for every band, mode and PSDU: its header is read back, its blocks are those that the cursor writes, and it comes back.
+pub fn every_chain_returns() -> u8
+    ensures count { λ _. ⌜ EveryChainReturns countKind ⌝ }
+    ensures graded { λ _. ⌜ EveryChainReturns gradedKind ⌝ }
 {
     0
 }
