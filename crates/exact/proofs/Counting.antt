@@ -100,13 +100,3 @@ pub count-none : (n : ℕ) → count (λ j. false) n ≡ 0
 unfolding count
 count-none zero = refl
 count-none (suc n) = omega (arith, count-none n)
-
--- Two tests of which no place passes both, and that only places of a third test pass, are passed by no more places.
-pub count-fewer : (f g t : ℕ → Bool) (n : ℕ) → ((k : ℕ) → k < n → t k ≡ false → (f k ≡ false) × (g k ≡ false)) → ((k : ℕ) → one (f k) + one (g k) ≤ 1) → count f n + count g n ≤ count t n
-unfolding count
-count-fewer f g t zero h both = lit≤ tt
-count-fewer f g t (suc n) h both = omega (arith, count-fewer f g t n (λ k l. h k (omega arith)) both, here (t n) refl)
-  where
-    here : (b : Bool) → t n ≡ b → one (f n) + one (g n) ≤ one (t n)
-    here true e = rw e (both n)
-    here false e = rw (e, h n (omega arith) e .0, h n (omega arith) e .1) (lit≤ tt)

@@ -44,7 +44,7 @@ use Rattle.receiver.proofs.Promised.{closes-nearest, judged-by-the-book}
 use Rattle.promise.specs.Clean.{sentBlock, sentCalls, ComesBack, CleanFramesComeBack}
 
 -- parts one after the other
-parts-joined : (m : ℕ) (xs : List ℕ) (n : ℕ) → joined (λ (x : List ℕ). x) (map (part m xs) (counting 0 n)) ≡ take (n * m) xs
+pub parts-joined : (m : ℕ) (xs : List ℕ) (n : ℕ) → joined (λ (x : List ℕ). x) (map (part m xs) (counting 0 n)) ≡ take (n * m) xs
 parts-joined m xs zero = ap (λ i. take i xs) (let z : 0 ≡ 0 * m = omega arith in z)
 parts-joined m xs (suc n) =
     ap (joined (λ (x : List ℕ). x)) (ap (λ i. map (part m xs) (counting 0 i)) (sym (add-one n)) ∙ map-counting-more (part m xs) 0 n n (omega arith))
@@ -52,11 +52,11 @@ parts-joined m xs (suc n) =
     ∙ (ap (λ ys. ys ++ part m xs n) (parts-joined m xs n) ∙ (sym (take-add (n * m) m xs) ∙ ap (λ i. take i xs) (sym (suc-mul n m)))))
 
 -- a check that passes
-passes : (L accepted c w : ℕ) (later : Result (Unit {0}) Fault) → 128 ≤ c → messageLength L ≤ w → accepted < blocks L → roomJudged L accepted c w later ≡ later
+pub passes : (L accepted c w : ℕ) (later : Result (Unit {0}) Fault) → 128 ≤ c → messageLength L ≤ w → accepted < blocks L → roomJudged L accepted c w later ≡ later
 passes L accepted c w later hc hw ha =
     cond-false _ _ _ (le-ltb c 128 hc) ∙ (cond-false _ _ _ (le-ltb w (messageLength L) hw) ∙ cond-false _ _ _ (lt-leb (blocks L) accepted ha))
 
-closes : (L accepted c w room : ℕ) → 128 ≤ c → messageLength L ≤ w → blocks L ≤ accepted → L ≤ room → closeJudged L accepted c w room ≡ Ok tt
+pub closes : (L accepted c w room : ℕ) → 128 ≤ c → messageLength L ≤ w → blocks L ≤ accepted → L ≤ room → closeJudged L accepted c w room ≡ Ok tt
 closes L accepted c w room hc hw ha hr =
     cond-false _ _ _ (le-ltb c 128 hc)
     ∙ (cond-false _ _ _ (le-ltb w (messageLength L) hw) ∙ (cond-false _ _ _ (le-ltb accepted (blocks L) ha) ∙ cond-false _ _ _ (le-ltb room L hr)))

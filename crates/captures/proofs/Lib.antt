@@ -1,0 +1,5 @@
+pub mod Found
+pub mod Hex
+pub mod Leading
+pub mod Blocks
+pub mod Heard
