@@ -11,7 +11,7 @@ fn main(rt: LibcRuntime) -> Result<(), AnyError> {
     rt.report(run(&rt))
 }
 
-// What follows the longest capture is not read.
+// What follows the longest capture is not read, and would change nothing (verdicts::nothing_is_read_behind).
 fn run(rt: &LibcRuntime) -> Result<(), AnyError> {
     let heap = rt.alloc();
     let mut capture = Vec::new(heap);
