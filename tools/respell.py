@@ -16,10 +16,11 @@ import sys
 
 NAME = r"[^\s(){}.;,@\"«»]+"
 WORD = re.compile(r'"(?:\\.|[^"\\])*"|--[^\n]*|' + NAME)
-RUST_WORD = re.compile(r'"(?:\\.|[^"\\])*"|//[^\n]*|' + NAME)
+RUST_WORD = re.compile(r'"(?:\\.|[^"\\])*"|//[^\n]*|[\w\'][\w\'-]*')
 USE = re.compile(r"(?m)^[^\S\n]*(?:ghost )?use ([^\s;{]+?)(?:\.?\{([^}]*)\})?(?: as (\S+?))?;?[^\S\n]*$")
 OLD_SPELLING = re.compile(r"(?![A-Z0-9])(?=.*(?:[A-Za-z0-9]-[A-Za-z0-9]|[a-z0-9][A-Z]))")
 MADE = re.compile(r"field-\d+|(?:then|else|in)-.*|\w+-(?:index|items|iterator)")
+LABELLED = re.compile(r'/(Answers|Invariants)\.antt$')
 ROOTS = re.compile(r"(?<![\w.'-])(?:goal|need|c|w|l|g)\.$")
 
 # lemmas and fields whose plain spelling is that of the definition that they speak of
@@ -85,7 +86,7 @@ def turned(path, text, own, ours_declared):
         if word in crate and word not in theirs:
             new = crate[word]
         elif (ours and OLD_SPELLING.match(word) and not re.match(r'["/]|--', word) and word not in theirs and word not in goals
-                and not (MADE.fullmatch(word) and word not in ours_declared) and not ROOTS.search(before)):
+                and not (MADE.fullmatch(word) and word not in ours_declared) and not (LABELLED.search(path) and ROOTS.search(before))):
             new = respelled(word)
         if not re.match(r'["/]|--', word):
             stands_for[new].add(word)

@@ -4,5 +4,5 @@ mod line;
 mod modes;
 
 pub use band::{Band, RateMode};
-pub use line::Band_line;
+pub use line::BandLine;
 pub use modes::{header_line, is_differential, psdu_line};

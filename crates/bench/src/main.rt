@@ -10,7 +10,7 @@ fn main(rt: HostRuntime) -> anyhow::Result<()> {
 }
 
 // What follows the longest capture is not read, and would change nothing (verdicts::nothing_is_read_behind).
-fn run(rt: &Host_runtime) -> anyhow::Result<()> {
+fn run(rt: &HostRuntime) -> anyhow::Result<()> {
     let heap = rt.alloc();
     let mut capture = Vec::new(heap);
     rt.stdin().take(LONGEST_CAPTURE).read_to_end(&mut capture)?;

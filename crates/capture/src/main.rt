@@ -24,7 +24,7 @@ fn main(rt: HostRuntime) -> anyhow::Result<()> {
 }
 
 // The four words that every capture needs, and then how its chips are damaged.
-fn run(rt: &Host_runtime) -> anyhow::Result<()> {
+fn run(rt: &HostRuntime) -> anyhow::Result<()> {
     let heap = rt.alloc();
     let given: Vec<String> = env::args(rt)?.skip(1).collect(heap)?;
     let [band, mode, cost, psdu, damage @ ..] = given.as_slice() else {

@@ -29,7 +29,7 @@ fn zeros(heap: Global, count: usize) -> Result<Vec<u8>, AllocError> {
 }
 
 // The chips that are sent for a PSDU.
-pub fn chips_of(heap: Global, order: &Order, psdu: &[u8]) -> anyhow::Result<Frame_chips> {
+pub fn chips_of(heap: Global, order: &Order, psdu: &[u8]) -> anyhow::Result<FrameChips> {
     check_psdu(psdu)?;
     let octets = psdu.len();
     let mut header = zeros(heap, header_chips(order.band))?;
@@ -71,7 +71,7 @@ fn write_section(capture: &mut Vec<u8>, octets: &[u8]) -> anyhow::Result<()> {
 }
 
 // The three sections.
-pub fn write_capture(heap: Global, order: &Order, frame: &Frame_chips) -> anyhow::Result<Vec<u8>> {
+pub fn write_capture(heap: Global, order: &Order, frame: &FrameChips) -> anyhow::Result<Vec<u8>> {
     let mut capture = Vec::new(heap);
     write_section(&mut capture, &letters(order))?;
     write_section(&mut capture, frame.header.as_slice())?;

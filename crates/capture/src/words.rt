@@ -15,7 +15,7 @@ fn band_named(text: &str) -> anyhow::Result<Band> {
     }
 }
 
-fn mode_named(text: &str) -> anyhow::Result<Rate_mode> {
+fn mode_named(text: &str) -> anyhow::Result<RateMode> {
     match text.parse::<u8>() {
         Ok(0) => Ok(RateMode::Mode0),
         Ok(1) => Ok(RateMode::Mode1),
@@ -25,7 +25,7 @@ fn mode_named(text: &str) -> anyhow::Result<Rate_mode> {
     }
 }
 
-fn cost_named(text: &str) -> anyhow::Result<Cost_choice> {
+fn cost_named(text: &str) -> anyhow::Result<CostChoice> {
     if text == "p" {
         Ok(CostChoice::Count)
     } else if text == "g" {

@@ -80,7 +80,7 @@ pub fn read_fields(band: Band, octets: &[u8]) -> Result<(RateMode, u16), Fault>
     ensures made { IfOk result (λ p. (has_mode band p.0 ≡ true) × (4 ≤ p.1) × (p.1 ≤ 2047)) }
 {
     match octets {
-        [0x_a7, lo, hi] => read_phr(band, u16::from_le_bytes([*lo, *hi])),
+        [0xA7, lo, hi] => read_phr(band, u16::from_le_bytes([*lo, *hi])),
         [0x58, _, _] => Err(refusal(FaultKind::MultiplexedSfd, 0x58)),
         [other, _, _] => Err(refusal(FaultKind::UnknownSfd, *other as usize)),
         _ => unreachable(),

@@ -24,8 +24,8 @@ fn despread_groups<L: LineCode>(
 ) -> Result<(), Fault>
     requires few { length values.old ≤ 176 }
     requires room { first + length values.old ≤ 2 ^ 32 }
-    ensures answer { result ≡ judged Frame (length values.old * (code line.now).chips) chips.now }
-    ensures memory { values.new ≡ values_after result (code line.now) first chips.now values.old }
+    ensures answer { result ≡ judged Frame (length values.old * (L.LineCode.code line.now).chips) chips.now }
+    ensures memory { values.new ≡ values_after result (L.LineCode.code line.now) first chips.now values.old }
 {
     let count = line.chips_per_group();
     judge(Layer::Frame, values.len() * count, chips)?;
@@ -113,8 +113,8 @@ pub fn read_block<L: LineCode>(
     observed: &mut [Observation; 176],
 ) -> Result<Observation, Fault>
     requires { block < 187 }
-    ensures answer { result ≡ read_answer (code line.now) (block * block_groups (code line.now)) chips.now }
-    ensures memory { observed.new ≡ read_after result (code line.now) differential last (block * block_groups (code line.now)) chips.now observed.old }
+    ensures answer { result ≡ read_answer (L.LineCode.code line.now) (block * block_groups (L.LineCode.code line.now)) chips.now }
+    ensures memory { observed.new ≡ read_after result (L.LineCode.code line.now) differential last (block * block_groups (L.LineCode.code line.now)) chips.now observed.old }
 {
     let bits = line.bits_per_group();
     let groups = 176 / bits;

@@ -6,7 +6,7 @@ fn main(rt: HostRuntime) -> anyhow::Result<()> {
     run(&rt)
 }
 
-fn run(rt: &Host_runtime) -> anyhow::Result<()> {
+fn run(rt: &HostRuntime) -> anyhow::Result<()> {
     let heap = rt.alloc();
     for name in env::args(rt)?.skip(1) {
         let capture = fs::read(rt, name.as_str())?;

@@ -67,7 +67,7 @@ unfolding written
 by_calls P none more same s [] = none s
 by_calls P none more same s (c ∷ cs) =
     ⊎_elim
-    (λ w. rw (w.news-is, w.state-is) (more s c cs w (by_calls P none more same (advanced s) cs)))
+    (λ w. rw (w.news_is, w.state_is) (more s c cs w (by_calls P none more same (advanced s) cs)))
     (λ r. rw (r.no_news, r.state_is) (same s c cs r (by_calls P none more same s cs)))
     (either s c)
 
@@ -95,7 +95,7 @@ moves_on : (s : State) (cs : List Call) → Moved s (after s cs) (length (writte
 unfolding after
 moves_on =
     by_calls (λ s cs ws. Moved s (after s cs) (length ws)) (λ s. (omega arith, refl))
-    (λ s c cs w ih. subst (λ (t : State). Moved s (after t cs) (suc (length (written (advanced s) cs)))) (sym w.state-is) (omega (arith, ih.0), ih.1))
+    (λ s c cs w ih. subst (λ (t : State). Moved s (after t cs) (suc (length (written (advanced s) cs)))) (sym w.state_is) (omega (arith, ih.0), ih.1))
     (λ s c cs r ih. subst (λ (t : State). Moved s (after t cs) (length (written s cs))) (sym r.state_is) ih)
 
 -- by one line code, the words of the groups from the cursor's block on

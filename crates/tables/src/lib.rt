@@ -4,4 +4,4 @@ pub mod facts;
 mod rows;
 mod search;
 
-pub use code::Table_code;
+pub use code::TableCode;

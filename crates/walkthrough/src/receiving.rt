@@ -23,7 +23,7 @@ const WORDS: usize = 16456;
 // Takes the whole blocks of the chips in turn. One that is refused leaves the frame without it, so that the close tells.
 fn take_blocks<K: CostKind>(
     frame: &mut OpenFrame,
-    line: &Band_line,
+    line: &BandLine,
     costs: &mut [K],
     words: &mut [u64],
     chips: &[u8],
@@ -44,7 +44,7 @@ fn take_blocks<K: CostKind>(
 pub fn receive<K: CostKind>(
     heap: Global,
     header: Header,
-    line: &Band_line,
+    line: &BandLine,
     chips: &[u8],
 ) -> Result<Received<K>, AllocError> {
     let mut costs = Vec::new(heap);

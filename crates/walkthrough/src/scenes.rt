@@ -16,14 +16,14 @@ const NOZZLE: [u8; 5] = [0x4e, 0x07, 0x01, 0x00, 0x5a];
 
 const BANDS: [Band; 4] = [Band::Mhz780, Band::Mhz868, Band::Mhz915, Band::Mhz2450];
 
-const MODES: [Rate_mode; 4] = [
+const MODES: [RateMode; 4] = [
     RateMode::Mode0,
     RateMode::Mode1,
     RateMode::Mode2,
     RateMode::Mode3,
 ];
 
-pub fn every_mode(rt: &Host_runtime) -> anyhow::Result<()> {
+pub fn every_mode(rt: &HostRuntime) -> anyhow::Result<()> {
     println!(rt; "Every band and mode, sent and received")?;
     for band in BANDS {
         for mode in MODES {
@@ -36,7 +36,7 @@ pub fn every_mode(rt: &Host_runtime) -> anyhow::Result<()> {
     Ok(())
 }
 
-fn show_frame(rt: &Host_runtime, band: Band, mode: RateMode, psdu: &[u8]) -> anyhow::Result<()> {
+fn show_frame(rt: &HostRuntime, band: Band, mode: RateMode, psdu: &[u8]) -> anyhow::Result<()> {
     let sent = send(rt.alloc(), band, mode, psdu)?;
     let header = read_header(band, &sent.header)?;
     let groups = first_groups(rt, &sent)?;
@@ -49,13 +49,13 @@ fn show_frame(rt: &Host_runtime, band: Band, mode: RateMode, psdu: &[u8]) -> any
 }
 
 // The first two groups, of which 16 chips at most are shown.
-fn first_groups(rt: &Host_runtime, sent: &Sent_frame) -> anyhow::Result<String> {
+fn first_groups(rt: &HostRuntime, sent: &SentFrame) -> anyhow::Result<String> {
     let count = (2 * sent.line.chips_per_group().min(8)).min(sent.chips.len());
     Ok(chips_text(rt.alloc(), &sent.chips[0..count])?)
 }
 
 // What both kinds of cost return.
-fn show_received(rt: &Host_runtime, header: Header, sent: &Sent_frame) -> anyhow::Result<()> {
+fn show_received(rt: &HostRuntime, header: Header, sent: &SentFrame) -> anyhow::Result<()> {
     let count = receive::<Count>(rt.alloc(), header, &sent.line, &sent.chips)?;
     let graded = receive::<Graded>(rt.alloc(), header, &sent.line, &sent.chips)?;
     let by_count = hex_text(rt.alloc(), &count.psdu)?;
@@ -66,14 +66,14 @@ fn show_received(rt: &Host_runtime, header: Header, sent: &Sent_frame) -> anyhow
     Ok(())
 }
 
-pub fn header_refusals(rt: &Host_runtime) -> anyhow::Result<()> {
+pub fn header_refusals(rt: &HostRuntime) -> anyhow::Result<()> {
     println!(rt; "What a header refuses")?;
     show_header(rt, Band::Mhz915, RateMode::Mode3, 3)?;
     show_header(rt, Band::Mhz915, RateMode::Mode3, 4)?;
     show_header(rt, Band::Mhz868, RateMode::Mode2, 10)
 }
 
-fn show_header(rt: &Host_runtime, band: Band, mode: RateMode, octets: usize) -> anyhow::Result<()> {
+fn show_header(rt: &HostRuntime, band: Band, mode: RateMode, octets: usize) -> anyhow::Result<()> {
     let mut chips = vec![in rt.alloc(); 0u8; header_chips(band)]?;
     let (mhz, number) = (band.number(), mode.number());
     match write_header(band, mode, octets, &mut chips) {
@@ -83,7 +83,7 @@ fn show_header(rt: &Host_runtime, band: Band, mode: RateMode, octets: usize) -> 
     Ok(())
 }
 
-pub fn damaged(rt: &Host_runtime) -> anyhow::Result<()> {
+pub fn damaged(rt: &HostRuntime) -> anyhow::Result<()> {
     println!(rt; "The volume update in band 915, damaged on the way")?;
     println!(rt; "mode 1, two chips of each group flipped:")?;
     flip_each(rt, 16, 2)?;
@@ -96,7 +96,7 @@ pub fn damaged(rt: &Host_runtime) -> anyhow::Result<()> {
 }
 
 // Flips the first chips of every group.
-fn flip_each(rt: &Host_runtime, group: usize, flips: usize) -> anyhow::Result<()> {
+fn flip_each(rt: &HostRuntime, group: usize, flips: usize) -> anyhow::Result<()> {
     let mut sent = send(rt.alloc(), Band::Mhz915, RateMode::Mode1, &VOLUME)?;
     for (i, chip) in sent.chips.iter_mut().enumerate() {
         if i % group.max(1) < flips {
@@ -107,7 +107,7 @@ fn flip_each(rt: &Host_runtime, group: usize, flips: usize) -> anyhow::Result<()
     show_received(rt, header, &sent)
 }
 
-fn erase_group(rt: &Host_runtime) -> anyhow::Result<()> {
+fn erase_group(rt: &HostRuntime) -> anyhow::Result<()> {
     let mut sent = send(rt.alloc(), Band::Mhz915, RateMode::Mode1, &VOLUME)?;
     for (i, chip) in sent.chips.iter_mut().enumerate() {
         if i / 16 == 5 {
@@ -119,7 +119,7 @@ fn erase_group(rt: &Host_runtime) -> anyhow::Result<()> {
 }
 
 // Flips the chips 0, 20, 40 and so on.
-fn flip_some(rt: &Host_runtime, flips: usize) -> anyhow::Result<()> {
+fn flip_some(rt: &HostRuntime, flips: usize) -> anyhow::Result<()> {
     let mut sent = send(rt.alloc(), Band::Mhz915, RateMode::Mode3, &VOLUME)?;
     for (i, chip) in sent.chips.iter_mut().enumerate() {
         if i % 20 == 0 && i / 20 < flips {
@@ -131,7 +131,7 @@ fn flip_some(rt: &Host_runtime, flips: usize) -> anyhow::Result<()> {
 }
 
 // Three flipped chips make a trace that starts at the cheapest state return another volume, and spare the shorter message.
-pub fn story(rt: &Host_runtime) -> anyhow::Result<()> {
+pub fn story(rt: &HostRuntime) -> anyhow::Result<()> {
     println!(rt;
         "Band 915, mode 3, chips 33, 48 and 65 flipped: a trace from the cheapest state, and ours"
     )?;
@@ -139,7 +139,7 @@ pub fn story(rt: &Host_runtime) -> anyhow::Result<()> {
     compare(rt, &NOZZLE)
 }
 
-fn compare(rt: &Host_runtime, psdu: &[u8]) -> anyhow::Result<()> {
+fn compare(rt: &HostRuntime, psdu: &[u8]) -> anyhow::Result<()> {
     let mut sent = send(rt.alloc(), Band::Mhz915, RateMode::Mode3, psdu)?;
     for (i, chip) in sent.chips.iter_mut().enumerate() {
         if i == 33 || i == 48 || i == 65 {

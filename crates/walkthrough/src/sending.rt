@@ -16,7 +16,7 @@ pub struct SentFrame {
 // The most blocks that a frame can have.
 const BLOCKS: usize = 187;
 
-pub fn send(heap: Global, band: Band, mode: RateMode, psdu: &[u8]) -> anyhow::Result<Sent_frame> {
+pub fn send(heap: Global, band: Band, mode: RateMode, psdu: &[u8]) -> anyhow::Result<SentFrame> {
     let Some(line) = psdu_line(band, mode) else {
         return Err(anyhow!("the band lacks the mode"));
     };

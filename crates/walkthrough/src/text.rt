@@ -15,7 +15,7 @@ const LINE: Whitened<TableCode> = Whitened {
 };
 
 // Each octet of the text is two groups of four bits, the low bits first.
-pub fn follow_text(rt: &Host_runtime) -> anyhow::Result<()> {
+pub fn follow_text(rt: &HostRuntime) -> anyhow::Result<()> {
     println!(rt; "The text \"{TEXT}\" by the whitened (8,4) code, damaged on the way")?;
     let mut position = 0;
     for octet in TEXT.bytes() {
@@ -26,7 +26,7 @@ pub fn follow_text(rt: &Host_runtime) -> anyhow::Result<()> {
     Ok(())
 }
 
-fn show_group(rt: &Host_runtime, position: u32, value: u32) -> anyhow::Result<()> {
+fn show_group(rt: &HostRuntime, position: u32, value: u32) -> anyhow::Result<()> {
     let passage = pass(&LINE, position, value)?;
     let sent = chips_text(rt.alloc(), &passage.sent)?;
     let received = chips_text(rt.alloc(), &passage.received)?;
@@ -40,7 +40,7 @@ fn show_group(rt: &Host_runtime, position: u32, value: u32) -> anyhow::Result<()
 }
 
 // A PSDU of zeros has code bits of zeros, so its groups show the whitening.
-pub fn zero_groups(rt: &Host_runtime) -> anyhow::Result<()> {
+pub fn zero_groups(rt: &HostRuntime) -> anyhow::Result<()> {
     println!(rt; "The first groups of a zero PSDU, band 915, mode 2")?;
     for position in 0..2 {
         let mut chips = [0; 8];
@@ -52,7 +52,7 @@ pub fn zero_groups(rt: &Host_runtime) -> anyhow::Result<()> {
 }
 
 // What a line code refuses, as a firmware engineer sees it.
-pub fn refusals(rt: &Host_runtime) -> anyhow::Result<()> {
+pub fn refusals(rt: &HostRuntime) -> anyhow::Result<()> {
     println!(rt; "What a line code refuses")?;
     show_refusal(rt, LINE.despread(0, &[0; 7]))?;
     show_refusal(rt, LINE.despread(0, &[0, 1, 0, 2, 0, 1, 3, 0]))?;
@@ -64,7 +64,7 @@ pub fn refusals(rt: &Host_runtime) -> anyhow::Result<()> {
     Ok(())
 }
 
-fn show_refusal(rt: &Host_runtime, answer: Result<(u32, bool), Fault>) -> anyhow::Result<()> {
+fn show_refusal(rt: &HostRuntime, answer: Result<(u32, bool), Fault>) -> anyhow::Result<()> {
     match answer {
         Ok((value, _)) => println!(rt; "accepted as {value}")?,
         Err(fault) => println!(rt; "{fault}")?,

@@ -27,8 +27,8 @@ pub fn sent_chips_are_unwrecked() -> u8
 
 // Both hold of the line code at hand, with nothing left to ask of it.
 pub fn line_code_mends_frames<L: LineCode>(line: &L) -> u8
-    ensures few { ByCode (code line.now) FewWreckedMended }
-    ensures sent { ByCode (code line.now) SentUnharmed }
+    ensures few { ByCode (L.LineCode.code line.now) FewWreckedMended }
+    ensures sent { ByCode (L.LineCode.code line.now) SentUnharmed }
 {
     let _ = line;
     0

@@ -7,20 +7,20 @@ use Rattle.costs.specs.declared.Observation.{Observation}
 use Rattle.reading.specs.Groups.{encoded_seen, decoded_seen}
 use Rattle.reading.proofs.decode_groups.Goals as goal
 
-pub decoded-at-requires : goal.decoded-at-requires
-decoded-at-requires c =
-    let place = c.moved-in.ensures.within in
+pub decoded_at-requires : goal.decoded_at-requires
+decoded_at-requires c =
+    let place = c.moved_in.ensures.within in
     record {
       some = c.requires.some;
       few = c.requires.few;
-      within = div_below c.moved-in.result c.args.bits (length c.args.values.now) c.requires.some (omega arith);
+      within = div_below c.moved_in.result c.args.bits (length c.args.values.now) c.requires.some (omega arith);
     }
 
 pub loop-j-preserved : goal.loop-j-preserved
 loop-j-preserved c =
     let f : ℕ → Observation = λ k. decoded_seen c.args.differential c.args.last (encoded_seen c.args.values.now c.args.bits) (moved_in k) in
-    let place = ap (decoded_seen c.args.differential c.args.last (encoded_seen c.args.values.now c.args.bits)) c.moved-in.ensures.value in
-    let is : c.decoded-at.result ≡ f c.loop-j.j = cc (c.decoded-at.ensures, place) in
+    let place = ap (decoded_seen c.args.differential c.args.last (encoded_seen c.args.values.now c.args.bits)) c.moved_in.ensures.value in
+    let is : c.decoded_at.result ≡ f c.loop-j.j = cc (c.decoded_at.ensures, place) in
     ((λ k h. rw is (fill_by_more f c.loop-j.observed c.loop-j.j c.args.last (omega arith) c.loop-j.invariant.0 k h)), simp length-set (omega arith))
 
 pub returns : goal.returns

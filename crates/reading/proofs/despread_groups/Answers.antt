@@ -4,18 +4,18 @@ use Rattle.frames.specs.Heard.{heard}
 use Rattle.reading.proofs.Cuts.{whole_good, group_end, group_read}
 use Rattle.reading.proofs.despread_groups.Goals as goal
 
-pub slice-bounds-despread-end : goal.slice-bounds-despread-end
-slice-bounds-despread-end g c =
-    group_end (g.L.LineCode.code c.args.line.now) c.args.first (length c.args.values.now) c.chips-per-group-count.result c.args.chips.now
-    c.chips-per-group-count.ensures _ (sym c.judge.ensures ∙ c.in-ok-judge.was) c.loop-j.j c.loop-j-test.true
+pub slice_bounds-despread-end : goal.slice_bounds-despread-end
+slice_bounds-despread-end g c =
+    group_end (g.L.LineCode.code c.args.line.now) c.args.first (length c.args.values.now) c.chips_per_group-count.result c.args.chips.now
+    c.chips_per_group-count.ensures _ (sym c.judge.ensures ∙ c.in_ok-judge.was) c.loop-j.j c.loop-j-test.true
 
-pub returns-in-err-values : goal.returns-in-err-values
-returns-in-err-values g c =
+pub returns-in_err-values : goal.returns-in_err-values
+returns-in_err-values g c =
     let k = g.L.LineCode.code c.args.line.now in
-    let read = group_read k c.args.first (length c.args.values.now) c.chips-per-group-count.result c.args.chips.now
-    c.chips-per-group-count.ensures _ (sym c.judge.ensures ∙ c.in-ok-judge.was) c.loop-j.j c.loop-j-test.true in
-    let clash : Err c.in-err-values.field-0.0 ≡ Ok (heard k c.args.first c.args.chips.now c.loop-j.j) =
-    sym c.in-err-values.was ∙ c.despread.ensures.answer ∙ read in
+    let read = group_read k c.args.first (length c.args.values.now) c.chips_per_group-count.result c.args.chips.now
+    c.chips_per_group-count.ensures _ (sym c.judge.ensures ∙ c.in_ok-judge.was) c.loop-j.j c.loop-j-test.true in
+    let clash : Err c.in_err-values.field-0.0 ≡ Ok (heard k c.args.first c.args.chips.now c.loop-j.j) =
+    sym c.in_err-values.was ∙ c.despread.ensures.answer ∙ read in
     let z : ◌≡◌ {A = ℕ} 0 1 = cc clash in
     absurd (omega arith)
 
@@ -24,11 +24,11 @@ loop-j-preserved g c =
     let k = g.L.LineCode.code c.args.line.now in
     let vs = c.loop-j.values in
     let j = c.loop-j.j in
-    let read = group_read k c.args.first (length c.args.values.now) c.chips-per-group-count.result c.args.chips.now
-    c.chips-per-group-count.ensures _ (sym c.judge.ensures ∙ c.in-ok-judge.was) j c.loop-j-test.true in
-    let same : Ok c.in-ok-values.field-0 ≡ Ok (heard k c.args.first c.args.chips.now j) =
-    sym c.in-ok-values.was ∙ c.despread.ensures.answer ∙ read in
-    let here : c.in-ok-values.field-0 ≡ heard k c.args.first c.args.chips.now j = cc same in
+    let read = group_read k c.args.first (length c.args.values.now) c.chips_per_group-count.result c.args.chips.now
+    c.chips_per_group-count.ensures _ (sym c.judge.ensures ∙ c.in_ok-judge.was) j c.loop-j-test.true in
+    let same : Ok c.in_ok-values.field-0 ≡ Ok (heard k c.args.first c.args.chips.now j) =
+    sym c.in_ok-values.was ∙ c.despread.ensures.answer ∙ read in
+    let here : c.in_ok-values.field-0 ≡ heard k c.args.first c.args.chips.now j = cc same in
     let lt : j < length vs = omega arith in
     below_more _ _
     (λ i h. let ne : i ≢ j = omega arith in rw get_or-set_other (c.loop-j.invariant i h))
@@ -39,6 +39,6 @@ returns g c =
     let k = g.L.LineCode.code c.args.line.now in
     let m = length c.args.values.now in
     record {
-      answer = whole_good k c.args.first m c.chips-per-group-count.result c.args.chips.now c.chips-per-group-count.ensures _ (sym c.judge.ensures ∙ c.in-ok-judge.was);
+      answer = whole_good k c.args.first m c.chips_per_group-count.result c.args.chips.now c.chips_per_group-count.ensures _ (sym c.judge.ensures ∙ c.in_ok-judge.was);
       memory = fill_by_all (heard k c.args.first c.args.chips.now) c.loop-j.values m (0, false) c.loop-j.auto.values (λ i h. c.loop-j.invariant i (omega arith));
     }

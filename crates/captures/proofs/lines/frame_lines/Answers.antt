@@ -5,7 +5,7 @@ use Rattle.captures.proofs.lines.frame_lines.Goals as goal
 pub returns : goal.returns
 returns c = record {
   answer = joined (head_lines c.args.mode c.args.psdu_length c.args.cost) (hex_of c.args.psdu.now) newline
-      c.in-ok-text.ensures
-      c.in-ok-push-hex.ensures
-      c.in-ok-push-str.ensures.bytes;
+      c.in_ok-text.ensures
+      c.in_ok-push_hex.ensures
+      c.in_ok-push_str.ensures.bytes;
 }

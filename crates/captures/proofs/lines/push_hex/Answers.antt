@@ -9,7 +9,7 @@ loop-octet-preserved c =
     let bs = c.args.octets.now in
     let i = c.loop-octet.octet-index in
     let more = hex_of_more bs i (omega arith) in
-    let put = c.in-ok-push-octet.ensures in
+    let put = c.in_ok-push_octet.ensures in
     let join = append_assoc (string_bytes c.args.text.now) (hex_of (take i bs)) (hex_of (get_or bs i 0 ∷ [])) in
     cc
 

@@ -7,7 +7,7 @@ use Rattle.captures.proofs.reports.report.Goals as goal
 pub returns-in-Ok : goal.returns-in-Ok
 returns-in-Ok c =
     let o = c.in-Ok.told in
-    let psdu = take o.length c.read-capture.new.psdu in
+    let psdu = take o.length c.read_capture.new.psdu in
     let lines : frame_lines c.number.result o.length o.cost psdu ≡ report_of c.args.capture.now =
     ap (λ m. frame_lines m o.length o.cost psdu) c.number.ensures ∙ ap lines_of c.in-Ok.ensures.answer in
-    record { answer = IfOk-weaker c.frame-lines.result _ _ (λ s e. e ∙ lines) c.frame-lines.ensures.answer }
+    record { answer = IfOk-weaker c.frame_lines.result _ _ (λ s e. e ∙ lines) c.frame_lines.ensures.answer }

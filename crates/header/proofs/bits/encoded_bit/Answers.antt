@@ -4,23 +4,23 @@ use Rattle.frames.specs.Sent.{group_chips}
 use Rattle.header.proofs.Singles.{bit_heard, group_slice, not_refused}
 use Rattle.header.proofs.bits.encoded_bit.Goals as goal
 
-pub slice-bounds-despread-end : goal.slice-bounds-despread-end
-slice-bounds-despread-end g c =
-    let n : ℕ = c.chips-per-group-n.result in
-    let ends : n * c.args.i + n ≤ length c.args.chips.now = omega (arith, c.requires.within, mul_comm n c.args.i, ap (λ (x : ℕ). c.args.i * x) c.chips-per-group-n.ensures) in
+pub slice_bounds-despread-end : goal.slice_bounds-despread-end
+slice_bounds-despread-end g c =
+    let n : ℕ = c.chips_per_group-n.result in
+    let ends : n * c.args.i + n ≤ length c.args.chips.now = omega (arith, c.requires.within, mul_comm n c.args.i, ap (λ (x : ℕ). c.args.i * x) c.chips_per_group-n.ensures) in
     search rules
 
 pub unwrap-value-requires : goal.unwrap-value-requires
 unwrap-value-requires g c =
     let k : Code = g.L.LineCode.code c.args.line.now in
-    let slice = group_slice k c.chips-per-group-n.result c.args.i c.args.chips.now c.chips-per-group-n.ensures in
+    let slice = group_slice k c.chips_per_group-n.result c.args.i c.args.chips.now c.chips_per_group-n.ensures in
     ap (λ r. is_ok r)
     (c.despread.ensures.answer ∙ (ap (despread_answer k c.args.i) slice ∙ not_refused k c.args.i c.args.i c.args.chips.now c.requires.chips c.requires.within))
 
 pub returns : goal.returns
 returns g c =
     let k : Code = g.L.LineCode.code c.args.line.now in
-    let slice = group_slice k c.chips-per-group-n.result c.args.i c.args.chips.now c.chips-per-group-n.ensures in
+    let slice = group_slice k c.chips_per_group-n.result c.args.i c.args.chips.now c.chips_per_group-n.ensures in
     let answer = c.despread.ensures.answer ∙ (ap (despread_answer k c.args.i) slice ∙ not_refused k c.args.i c.args.i c.args.chips.now c.requires.chips c.requires.within) in
     let was = c.unwrap-value.ensures in
     let value : c.unwrap-value.result ≡ value_of k c.args.i (group_chips k c.args.chips.now c.args.i) = cc in

@@ -13,12 +13,12 @@ returns c =
     let b = c.args.band in
     let m = c.args.mode in
     let l : ℕ = c.args.psdu_length in
-    let os = laid_out b m l _ _ c.phr-of-phr.ensures c.preamble-octets-start.ensures in
-    let room = eq-eqb (length c.args.chips.now) (header_length b) (c.if-chips-header-chips.false ∙ c.header-chips.ensures.answer) in
-    let known : has_mode b m ≡ true = sym c.has-mode.ensures.answer ∙ c.if-not-has-mode.false in
+    let os = laid_out b m l _ _ c.phr_of-phr.ensures c.preamble_octets-start.ensures in
+    let room = eq-eqb (length c.args.chips.now) (header_length b) (c.if-chips-header_chips.false ∙ c.header_chips.ensures.answer) in
+    let known : has_mode b m ≡ true = sym c.has_mode.ensures.answer ∙ c.if-not-has_mode.false in
     let fits : is_length l ≡ true = and_from _ _ (le-leb 4 l (omega arith)) (le-leb l 2047 (omega arith)) in
     record {
-      answer = ap Ok (c.write-octets.ensures.last ∙ ap last_encoded os) ∙ sym (cond-true _ _ _ room ∙ (cond-true _ _ _ known ∙ cond-true _ _ _ fits));
-      memory = c.write-octets.ensures.chips ∙ (ap (λ (k : Code). octet_chips k (laid c.phr-of-phr.result c.preamble-octets-start.result)) c.header-line.ensures ∙ ap (octet_chips (header_code b)) os)
+      answer = ap Ok (c.write_octets.ensures.last ∙ ap last_encoded os) ∙ sym (cond-true _ _ _ room ∙ (cond-true _ _ _ known ∙ cond-true _ _ _ fits));
+      memory = c.write_octets.ensures.chips ∙ (ap (λ (k : Code). octet_chips k (laid c.phr_of-phr.result c.preamble_octets-start.result)) c.header_line.ensures ∙ ap (octet_chips (header_code b)) os)
           ∙ sym (cond-true _ _ _ room ∙ (cond-true _ _ _ known ∙ cond-true _ _ _ fits));
     }

@@ -9,7 +9,7 @@ loop-i-preserved c =
     let xs = c.loop-i.chips in
     let i = c.loop-i.i in
     c.loop-i.invariant ∙ whiten_more c.args.start i xs (search rules)
-    ∙ ap (λ s. take (i + 1) (set xs i (bit_xor (get_or xs i 0) s)) ++ whiten (c.args.start + (i + 1)) (drop (i + 1) (set xs i (bit_xor (get_or xs i 0) s)))) (sym c.sequence-chip.ensures)
+    ∙ ap (λ s. take (i + 1) (set xs i (bit_xor (get_or xs i 0) s)) ++ whiten (c.args.start + (i + 1)) (drop (i + 1) (set xs i (bit_xor (get_or xs i 0) s)))) (sym c.sequence_chip.ensures)
 
 pub returns : goal.returns
 returns c = sym (c.loop-i.invariant ∙ whiten_all c.args.start c.loop-i.i c.loop-i.chips (search rules))

@@ -9,12 +9,12 @@ pub loop-k-preserved : goal.loop-k-preserved
 loop-k-preserved c =
     let m : ℕ → Bool = message_bit c.args.psdu.now in
     let n : ℕ = 88 * c.args.block + c.loop-k.k in
-    let is_bit : c.message-bit-m.result ≡ m n = c.message-bit-m.ensures in
+    let is_bit : c.message_bit-m.result ≡ m n = c.message_bit-m.ensures in
     let is_six : c.loop-k.register ≡ last_six m n = c.loop-k.invariant.0 in (
       turn_register m n _ _ is_bit is_six _ c.shifted-next.ensures ∙ ap (last_six m) (omega arith),
       fill_two (λ i. code_bit m (176 * c.args.block + i)) c.loop-k.coded c.loop-k.k _ _ (omega arith) c.loop-k.invariant.1
-          (turn_first m n _ _ is_bit is_six _ c.code-pair-a0.ensures.first ∙ ap (code_bit m) (omega arith))
-          (turn_second m n _ _ is_bit is_six _ c.code-pair-a0.ensures.second ∙ ap (code_bit m) (omega arith)),
+          (turn_first m n _ _ is_bit is_six _ c.code_pair-a0.ensures.first ∙ ap (code_bit m) (omega arith))
+          (turn_second m n _ _ is_bit is_six _ c.code_pair-a0.ensures.second ∙ ap (code_bit m) (omega arith)),
       simp length-set (omega arith),
     )
 

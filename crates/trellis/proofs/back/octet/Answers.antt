@@ -6,6 +6,7 @@ use Rattle.nearest.specs.Trellis.{traced}
 use Rattle.codebits.proofs.Numbers.{number_below}
 use Rattle.trellis.specs.Trace.{took_by, ComesTo}
 use Rattle.trellis.proofs.Going.{comes_none, comes_more, bit_front}
+use Rattle.trellis.proofs.back.octet.Goals.{In-loop-j}
 use Rattle.trellis.proofs.back.octet.Goals as goal
 
 pub loop-j-init : goal.loop-j-init
@@ -13,17 +14,17 @@ unfolding number_at
 loop-j-init c = (refl, comes_none c.args.words.now (8 * c.args.i + 8) c.args.state c.requires.0)
 
 -- seven bits or fewer leave room for one more
-room : (c : goal.In-loop-j) → c.loop-j.value < 2 ^ 7
+room : (c : In-loop-j) → c.loop-j.value < 2 ^ 7
 room c =
     let below = number_below (traced (took_by c.args.words.now) (8 * c.args.i + 8) c.args.state) (8 * c.args.i + (8 - c.loop-j.j)) c.loop-j.j in
     let few : c.loop-j.j ≤ 7 = omega arith in
     omega (arith, below, c.loop-j.invariant.0, pow_mono few)
 
-pub overflow-mul-value : goal.overflow-mul-value
-overflow-mul-value c = omega (arith, room c)
+pub overflow_mul-value : goal.overflow_mul-value
+overflow_mul-value c = omega (arith, room c)
 
-pub overflow-add-value : goal.overflow-add-value
-overflow-add-value c = omega (arith, room c)
+pub overflow_add-value : goal.overflow_add-value
+overflow_add-value c = omega (arith, room c)
 
 pub loop-j-preserved : goal.loop-j-preserved
 loop-j-preserved c =

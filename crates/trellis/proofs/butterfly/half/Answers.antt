@@ -8,6 +8,7 @@ use Rattle.trellis.specs.Memory.{cost_in, Written}
 use Rattle.trellis.proofs.Banks.{apart, written_none, written_more}
 use Rattle.trellis.proofs.Flies.{chosen, even_zero, even_one, odd_zero, odd_one}
 use Rattle.trellis.proofs.Numbered.{number_push, one_at, two_at, power_room, cond_le}
+use Rattle.trellis.proofs.butterfly.half.Goals.{After-noted-in-loop-i}
 use Rattle.trellis.proofs.butterfly.half.Goals as goal
 
 pub loop-i-init : goal.loop-i-init
@@ -20,17 +21,17 @@ loop-i-init g c =
     )
 
 -- the bits of a turn fit
-turn : (g : _) (c : goal.After-noted-in-loop-i g) → (c.noted.result ≤ 2 ^ (2 * c.loop-i.i)) × (c.noted-in-loop-i.result ≤ 2 ^ suc (2 * c.loop-i.i))
+turn : (g : _) (c : After-noted-in-loop-i g) → (c.noted.result ≤ 2 ^ (2 * c.loop-i.i)) × (c.noted-in-loop-i.result ≤ 2 ^ suc (2 * c.loop-i.i))
 turn g c = (
   rw (c.noted.ensures, one_at c.loop-i.i c.loop-i-test.true) (cond_le c.choose-zero.result.1 (2 ^ (2 * c.loop-i.i))),
   rw (c.noted-in-loop-i.ensures, two_at c.loop-i.i c.loop-i-test.true) (cond_le c.choose-one.result.1 (2 ^ suc (2 * c.loop-i.i))),
 )
 
-pub overflow-add-word : goal.overflow-add-word
-overflow-add-word g c = omega (arith, (turn g c).0, (turn g c).1, power_room c.loop-i.i c.loop-i-test.true)
+pub overflow_add-word : goal.overflow_add-word
+overflow_add-word g c = omega (arith, (turn g c).0, (turn g c).1, power_room c.loop-i.i c.loop-i-test.true)
 
-pub overflow-add-word-in-loop-i : goal.overflow-add-word-in-loop-i
-overflow-add-word-in-loop-i g c =
+pub overflow_add-word-in-loop-i : goal.overflow_add-word-in-loop-i
+overflow_add-word-in-loop-i g c =
     let kind = g.K.CostKind.kind in
     let below = number_below (takes kind c.args.a c.args.b c.args.free (cost_in kind c.args.costs.now c.args.from)) (2 * c.args.base) (2 * c.loop-i.i) in
     omega (arith, (turn g c).0, (turn g c).1, power_room c.loop-i.i c.loop-i-test.true, c.loop-i.invariant.1, below)

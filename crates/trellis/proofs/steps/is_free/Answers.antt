@@ -4,10 +4,10 @@ use Rattle.std.proofs.lemmas.Bool.Decides.{nat_tests}
 use Rattle.nearest.specs.Trellis.{free}
 use Rattle.trellis.proofs.steps.is_free.Goals as goal
 
-pub returns-then-k-ge-TAIL-BITS : goal.returns-then-k-ge-TAIL-BITS
+pub returns-then-k-ge-TAIL_BITS : goal.returns-then-k-ge-TAIL_BITS
 unfolding free
-returns-then-k-ge-TAIL-BITS c = grind (arith, nat_tests)
+returns-then-k-ge-TAIL_BITS c = grind (arith, nat_tests)
 
-pub returns-else-k-ge-TAIL-BITS : goal.returns-else-k-ge-TAIL-BITS
+pub returns-else-k-ge-TAIL_BITS : goal.returns-else-k-ge-TAIL_BITS
 unfolding free
-returns-else-k-ge-TAIL-BITS c = grind (arith, nat_tests)
+returns-else-k-ge-TAIL_BITS c = grind (arith, nat_tests)

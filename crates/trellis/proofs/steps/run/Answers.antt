@@ -23,11 +23,11 @@ loop-pair-preserved g c =
     let third : 2 * k + 2 ≡ 2 * suc k = omega arith in
     let fourth : 2 * k + 3 ≡ suc (2 * suc k) = omega arith in
     let next : first + k + 1 ≡ first + suc k = omega arith in
-    let even = running_more kind observed e first old k c.loop-pair.costs words c.loop-pair.invariant 0 64 (observed (2 * k)) (observed (2 * k + 1)) c.is-free-even.result c.forth.new.costs c.forth.result
-    (omega arith) (omega arith) refl (ap observed second) c.is-free-even.ensures room c.forth.ensures.memory c.forth.ensures.answer in
-    let odd = running_more kind observed e first old (suc k) c.forth.new.costs (set words k c.forth.result) even 64 0 (observed (2 * k + 2)) (observed (2 * k + 3)) c.is-free-odd.result
+    let even = running_more kind observed e first old k c.loop-pair.costs words c.loop-pair.invariant 0 64 (observed (2 * k)) (observed (2 * k + 1)) c.is_free-even.result c.forth.new.costs c.forth.result
+    (omega arith) (omega arith) refl (ap observed second) c.is_free-even.ensures room c.forth.ensures.memory c.forth.ensures.answer in
+    let odd = running_more kind observed e first old (suc k) c.forth.new.costs (set words k c.forth.result) even 64 0 (observed (2 * k + 2)) (observed (2 * k + 3)) c.is_free-odd.result
     c.back.new.costs c.back.result
-    (omega arith) (omega arith) (ap observed third) (ap observed fourth) (c.is-free-odd.ensures ∙ ap (free e) next) room_1 c.back.ensures.memory c.back.ensures.answer in
+    (omega arith) (omega arith) (ap observed third) (ap observed fourth) (c.is_free-odd.ensures ∙ ap (free e) next) room_1 c.back.ensures.memory c.back.ensures.answer in
     let end : 2 * (c.loop-pair.pair + 1) ≡ suc (suc k) = omega arith in
     rw (end, add-one k) odd
 

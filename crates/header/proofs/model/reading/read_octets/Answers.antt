@@ -2,8 +2,8 @@ use Rattle.std.proofs.Common.{ℕ, ◌+◌, ◌-◌, ◌*◌, arith}
 use Rattle.frames.proofs.Parts.{part_ends}
 use Rattle.header.proofs.model.reading.read_octets.Goals as goal
 
-pub encoded-bit-before-requires : goal.encoded-bit-before-requires
-encoded-bit-before-requires g c =
+pub encoded_bit-before-requires : goal.encoded_bit-before-requires
+encoded_bit-before-requires g c =
     let n : ℕ = (g.L.LineCode.code c.args.line.now).chips in
     record {
       single = c.requires.single;

@@ -16,5 +16,5 @@ returns g c =
     let xs = c.args.chips.now in
     let make = in_use_make a b p in
     let is =
-    c.despread.ensures.answer ∙ ap (λ k. despread_answer k p xs) c.in-use.ensures ∙ despread_answer_alike (in_use a b p) (alternating a b) make.bits make.chips p xs (λ v. refl) in
+    c.despread.ensures.answer ∙ ap (λ k. despread_answer k p xs) c.in_use.ensures ∙ despread_answer_alike (in_use a b p) (alternating a b) make.bits make.chips p xs (λ v. refl) in
     record { answer = is; promise = heard (alternating a b) (alternating_lawful a b (g.A.LineCode.lawful even) (g.A.LineCode.lawful odd)) p (search rules) xs _ is }

@@ -14,6 +14,6 @@ returns g c =
     let xs = c.args.chips.now in
     let make = in_use_make a b p in
     record {
-      answer = c.spread.ensures.answer ∙ ap (λ k. spread_answer k v (length xs)) c.in-use.ensures ∙ spread_answer_alike (in_use a b p) (alternating a b) make.bits make.chips v (length xs);
-      memory = c.spread.ensures.memory ∙ ap (λ k. spread_chips k p v xs) c.in-use.ensures ∙ spread_chips_alike (in_use a b p) (alternating a b) make.bits make.chips p v xs refl;
+      answer = c.spread.ensures.answer ∙ ap (λ k. spread_answer k v (length xs)) c.in_use.ensures ∙ spread_answer_alike (in_use a b p) (alternating a b) make.bits make.chips v (length xs);
+      memory = c.spread.ensures.memory ∙ ap (λ k. spread_chips k p v xs) c.in_use.ensures ∙ spread_chips_alike (in_use a b p) (alternating a b) make.bits make.chips p v xs refl;
     }

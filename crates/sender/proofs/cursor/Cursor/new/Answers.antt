@@ -4,6 +4,6 @@ use Rattle.sender.specs.Stored.{last_six, last_sent}
 use Rattle.sender.proofs.cursor.Cursor.new.Goals as goal
 
 -- before the first block there are six zeros, and the header's last bit
-pub invariant-of-result : goal.invariant-of-result
+pub invariant_of-result : goal.invariant_of-result
 unfolding last_six last_sent back
-invariant-of-result c = (refl, (refl, tt))
+invariant_of-result c = record { six = refl; sent = refl }

@@ -13,8 +13,8 @@ returns g c =
     let l : Lawful k = g.L.LineCode.lawful c.args.line.now in
     let s : State = view c.args.self.now in
     let room : ℕ = length c.args.chips.now in
-    let left : s.block < blocks_to_send (length s.psdu) = omega (arith, c.blocks-to-send-blocks.ensures.value) in
-    let fits : room ≡ block_chips k = c.if-chips-block-chips.false ∙ c.block-chips.ensures.answer in
+    let left : s.block < blocks_to_send (length s.psdu) = omega (arith, c.blocks_to_send-blocks.ensures.value) in
+    let fits : room ≡ block_chips k = c.if-chips-block_chips.false ∙ c.block_chips.ensures.answer in
     record {
       answer = sym (answer_written k s room left fits);
       memory = c.advance.ensures.chips ∙ sym (cond-true _ _ _ (is_written k s room left fits) ∙ next_is k l s left);

@@ -10,16 +10,16 @@ use Rattle.tables.specs.Search.{part_distance}
 use Rattle.tables.proofs.Table.{facts, digit_count, found}
 use Rattle.tables.proofs.code.TableCodeLineCode.despread.Goals as goal
 
-pub nearest-word-requires : goal.nearest-word-requires
-nearest-word-requires c =
+pub nearest_word-requires : goal.nearest_word-requires
+nearest_word-requires c =
     let t = c.args.self.now in
     let xs = c.args.chips.now in
     let s = facts t _ c.digits.ensures in
     let some = values (group_bits t) s.width in
     let count = c.values.ensures in
     let few = s.few in
-    let n = c.chips-per-group.ensures in
-    let sized = (accepted Line _ xs _ (sym c.judge.ensures ∙ c.in-ok-judge.was)).sized in
+    let n = c.chips_per_group.ensures in
+    let sized = (accepted Line _ xs _ (sym c.judge.ensures ∙ c.in_ok-judge.was)).sized in
     record {
       some = omega arith;
       few = omega arith;
@@ -31,12 +31,12 @@ pub returns : goal.returns
 returns c =
     let t = c.args.self.now in
     let xs = c.args.chips.now in
-    let p = c.args.-position in
-    let n = c.chips-per-group.ensures in
-    let good : judged Line (word_chips t) xs ≡ Ok c.in-ok-judge.field-0 =
-    ap (λ m. judged Line m xs) (sym n) ∙ (sym c.judge.ensures ∙ c.in-ok-judge.was) in
+    let p = c.args._position in
+    let n = c.chips_per_group.ensures in
+    let good : judged Line (word_chips t) xs ≡ Ok c.in_ok-judge.field-0 =
+    ap (λ m. judged Line m xs) (sym n) ∙ (sym c.judge.ensures ∙ c.in_ok-judge.was) in
     let is =
     despread_ok (code_of t) p xs _ _ good
-    (c.nearest-word.ensures
+    (c.nearest_word.ensures
     ∙ (ap (λ m. nearest (part_distance c.digits.result.now xs) (m - 1)) c.values.ensures ∙ found t _ c.digits.ensures p xs (accepted Line (word_chips t) xs _ good).sized)) in
     record { answer = is; promise = heard (code_of t) (code_lawful t) p (search rules) xs _ is }
