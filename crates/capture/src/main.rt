@@ -3,22 +3,24 @@ mod damage;
 mod making;
 mod words;
 
+use anyhow::anyhow;
 use damage::{flip_by_rate, flip_places};
 use making::{chips_of, write_capture};
 use std::env;
 use std::io::Write;
+use std::process::ExitCode;
 use words::{number_of, octets_of, order_of};
 
 const USAGE: &str =
     "usage: capture BAND MODE COST PSDU [flip PLACE.. | rate THOUSANDTHS START], as: capture 915 3 p deadbeef flip 5 90";
 
 // Wrong arguments get one line on standard error.
-fn main(rt: HostRuntime) -> anyhow::Result<()> {
+fn main(rt: HostRuntime) -> ExitCode {
     match run(&rt) {
-        Ok(()) => Ok(()),
+        Ok(()) => ExitCode::SUCCESS,
         Err(error) => {
-            eprintln!(rt; "capture: {error}")?;
-            Err(error)
+            let _ = eprintln!(rt; "capture: {error}");
+            ExitCode::FAILURE
         }
     }
 }
@@ -28,7 +30,7 @@ fn run(rt: &HostRuntime) -> anyhow::Result<()> {
     let heap = rt.alloc();
     let given: Vec<String> = env::args(rt)?.skip(1).collect(heap)?;
     let [band, mode, cost, psdu, damage @ ..] = given.as_slice() else {
-        return Err(USAGE.into());
+        return Err(anyhow!(USAGE));
     };
     let order = order_of(band.as_str(), mode.as_str(), cost.as_str())?;
     let psdu = octets_of(heap, psdu.as_str())?;
@@ -42,7 +44,7 @@ fn run(rt: &HostRuntime) -> anyhow::Result<()> {
             let rate = number_of(rate.as_str())?;
             flip_by_rate(frame.psdu.as_mut_slice(), rate, number_of(start.as_str())?);
         }
-        _ => return Err(USAGE.into()),
+        _ => return Err(anyhow!(USAGE)),
     }
     let capture = write_capture(heap, &order, &frame)?;
     rt.stdout().write_all(capture.as_slice())?;
