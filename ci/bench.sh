@@ -1,15 +1,23 @@
 #!/bin/sh
 # What the gate's comparison of standard output cannot see: the two programs in a pipe, where the bench stops reading, the status of a refused capture, and the line and status that wrong arguments get.
-# Needs target/bin as rt ci leaves it. It is silent if all is as it must be.
-cd "$(dirname "$0")/.." || exit 2
-capture=target/bin/capture
-bench=target/bin/bench
-replay=target/bin/replay
+# ci/bench.sh COPY: it builds the programs in COPY, a copy of the repository that may be written to. It is silent if all is as it must be.
+copy=$1
+[ -f "$copy/crates.txt" ] || { echo "usage: ci/bench.sh COPY" >&2; exit 2; }
+copy=$(cd "$copy" && pwd) || exit 2
+capture=$copy/crates/capture/out/capture
+bench=$copy/crates/bench/out/bench
+replay=$copy/crates/replay/out/replay
 work=$(mktemp -d) || exit 2
 trap 'rm -rf "$work"' EXIT
 wrong=0
 
 tell() { echo "$*"; wrong=1; }
+
+# The first run of each builds it: bench with no capture, and the others with no arguments.
+for name in bench capture replay; do
+    (cd "$copy/crates/$name" && rt run </dev/null) >"$work/log" 2>&1
+    [ -x "$copy/crates/$name/out/$name" ] || { echo "the program $name is not built"; tail -n 20 "$work/log"; exit 1; }
+done
 
 # WORDS and what the pipe has to print
 pipe() {

@@ -1,4 +1,6 @@
 // The bands and their rate modes, and the line code of each.
+#![tactic(auto)]
+
 mod band;
 mod line;
 mod modes;

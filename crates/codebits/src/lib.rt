@@ -1,4 +1,6 @@
 // The code bits of a PSDU, as definitions over the whole frame, and the laws that tie them together.
+#![tactic(auto)]
+
 ghost use Rattle.codebits.specs.Differential.{DecodingUndoesCoding};
 ghost use Rattle.codebits.specs.Interleaving.{Permutation};
 ghost use Rattle.codebits.specs.Message.{MessageListed, MessageDetermines};

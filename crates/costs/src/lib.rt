@@ -1,4 +1,6 @@
 // What it costs to claim code bits against those observed: what a kind of cost is, and the two kinds of the receiver.
+#![tactic(auto)]
+
 ghost use Rattle.std.specs.Prelude.{◌≡◌};
 ghost use Rattle.costs.specs.Differences.{CountIsTheDifferences, GradedIsTheDifferences};
 ghost use Rattle.costs.specs.Kind.{Kind, Laws, most_charges};

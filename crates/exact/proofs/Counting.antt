@@ -1,6 +1,6 @@
 -- Counting places in another order.
 -- Assumes nothing.
-use Rattle.std.proofs.Common.{◌≡◌, ℕ, zero, suc, ◌+◌, ◌-◌, ◌*◌, ◌/◌, ◌%◌, ◌<◌, ◌≤◌, Bool, true, false, sym, refl, ap, ◌∙◌, add-zero, add-suc, mul-zero, arith, lit≤}
+use Rattle.std.proofs.Common.{◌≡◌, ℕ, zero, suc, ◌+◌, ◌-◌, ◌*◌, ◌/◌, ◌%◌, ◌<◌, Bool, false, sym, refl, ap, ◌∙◌, add-zero, add-suc, mul-zero, arith}
 use native.Mathlib.Nat.{suc-sub-suc, sub-zero}
 use Rattle.codebits.specs.Bits.{one, count}
 use Rattle.codebits.specs.Interleaving.{moved_in, moved}

@@ -1,6 +1,6 @@
 -- Few touched bits are few wrong and doubtful ones, and bits observed as sent cost nothing.
 -- Assumes nothing.
-use Rattle.std.proofs.Common.{◌≡◌, ℕ, zero, suc, ◌+◌, ◌<◌, ◌≤◌, Bool, true, false, refl, arith}
+use Rattle.std.proofs.Common.{◌≡◌, ℕ, zero, suc, ◌<◌, Bool, true, false, refl, arith}
 use Rattle.codebits.specs.Bits.{◌⊕◌}
 use Rattle.costs.specs.Kind.{Kind, cost_of}
 use Rattle.costs.specs.Kinds.{count_kind, graded_kind}

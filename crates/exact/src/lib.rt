@@ -1,4 +1,6 @@
 // How much harm is mended: few enough wrong or doubtful code bits, and the PSDU that was sent is the only nearest one.
+#![tactic(auto)]
+
 ghost use Rattle.costs.specs.Kinds.{count_kind, graded_kind};
 ghost use Rattle.exact.specs.Mended.{FourWrongBitsMended, ErrorsAndErasuresMended};
 ghost use Rattle.exact.specs.Touched.{MoveKeepsCount, FewTouchedMended, CleanCostsNothing};

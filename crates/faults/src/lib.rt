@@ -1,4 +1,6 @@
 // What a call of the chain refuses by: which rule was broken, the place where it was found, and the layer that found it.
+#![tactic(auto)]
+
 ghost use Rattle.std.specs.Prelude.{◌≡◌, Some};
 ghost use Rattle.faults.specs.Refusals.{numbered, sentence, named, described};
 

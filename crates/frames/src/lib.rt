@@ -1,4 +1,6 @@
 // A whole frame at once: the chips that are sent for a PSDU, what is read from chips, and the laws that tie the two together.
+#![tactic(auto)]
+
 ghost use Rattle.frames.specs.Sent.{SentCut};
 ghost use Rattle.frames.specs.Heard.{UnwreckedHeard, SentHeard};
 ghost use Rattle.frames.specs.Joined.{BlocksJoin};

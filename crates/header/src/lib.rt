@@ -1,4 +1,6 @@
 // Headers both ways: the chips of a header from band, mode and length, and the header from its chips.
+#![tactic(auto)]
+
 mod bits;
 mod fields;
 mod laws;

@@ -1,6 +1,6 @@
 -- Codes that agree in bits, chips and the words of one position spread and despread alike there.
 -- Assumes nothing.
-use Rattle.std.proofs.Common.{◌≡◌, ℕ, ◌-◌, ◌^◌, ◌<◌, Bool, cond, eqb, ltb, List, length, Ok, Err, sym, refl, ap, ◌∙◌}
+use Rattle.std.proofs.Common.{◌≡◌, ℕ, ◌-◌, ◌^◌, cond, eqb, ltb, List, length, Ok, Err, ap, ◌∙◌}
 use Rattle.faults.specs.declared.Layer.TheVariants.{Line}
 use Rattle.faults.specs.declared.FaultKind.TheVariants.{ChipCount, GroupValue}
 use Rattle.faults.specs.Refusals.{fault}

@@ -1,6 +1,6 @@
 -- The layers keep the least distance.
 -- Assumes nothing.
-use Rattle.std.proofs.Common.{◌≡◌, ℕ, ◌*◌, ◌%◌, true, false, cond, not, ◌||◌, eqb, List, sym, refl, ap, ◌∙◌, arith}
+use Rattle.std.proofs.Common.{◌≡◌, ℕ, ◌*◌, ◌%◌, true, cond, not, ◌||◌, List, sym, refl, ap, ◌∙◌, arith}
 use Rattle.std.proofs.lemmas.Bool.{eq-eqb, ne_eqb}
 use Rattle.linecode.specs.Codes.{Code, distance, least_distance}
 use Rattle.linecode.proofs.Least.{distance_same, words_same}

@@ -1,6 +1,6 @@
 -- A table of the whitening sequence, tested whole, and one more chip whitened.
 -- Assumes nothing.
-use Rattle.std.proofs.Common.{◌≡◌, ℕ, zero, suc, ◌+◌, ◌%◌, ◌<◌, ◌≤◌, Bool, true, false, ◌&&◌, T, eqb, List, [], ◌∷◌, ◌++◌, length, get_or, take, drop, set, sym, refl, ap, ◌∙◌, subst, le_of_suc-le-suc, not-suc-le-zero, add-zero, add_assoc, add-suc, suc-add, zero-add, arith}
+use Rattle.std.proofs.Common.{◌≡◌, ℕ, zero, suc, ◌+◌, ◌%◌, ◌<◌, ◌≤◌, Bool, true, false, T, eqb, List, [], ◌∷◌, ◌++◌, length, get_or, take, drop, set, sym, refl, ap, ◌∙◌, le_of_suc-le-suc, not-suc-le-zero, add-zero, add_assoc, add-suc, suc-add, zero-add, arith}
 use lib.Bits.{bit_xor}
 use Rattle.std.proofs.lemmas.List.{take_more_set, drop_more, drop-set-lt, drop_all, append_assoc, append-nil}
 use Rattle.std.proofs.lemmas.List as lists

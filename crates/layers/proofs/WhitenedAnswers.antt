@@ -1,9 +1,9 @@
 -- Chips despread by a whitened code as the chips, whitened, are by the code below it.
 -- Assumes nothing.
-use Rattle.std.proofs.Common.{◌≡◌, ℕ, ◌+◌, ◌-◌, ◌*◌, ◌^◌, ◌<◌, List, length, get_or, Ok, sym, refl, ap, ◌∙◌, arith}
+use Rattle.std.proofs.Common.{◌≡◌, ℕ, ◌-◌, ◌*◌, ◌^◌, List, Ok, sym, refl, ap, ◌∙◌, arith}
 use Rattle.faults.specs.declared.Layer.TheVariants.{Line}
-use Rattle.linecode.specs.Chips.{judged, unless_refused}
-use Rattle.linecode.specs.Codes.{Code, distance, nearest, value_of, despread_answer}
+use Rattle.linecode.specs.Chips.{judged}
+use Rattle.linecode.specs.Codes.{Code, distance, value_of, despread_answer}
 use Rattle.linecode.specs.Judging.{judged_good, every_leading}
 use Rattle.linecode.proofs.Nearness.{nearest_same}
 use Rattle.layers.specs.Whitening.{whiten, whitened}

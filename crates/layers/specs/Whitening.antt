@@ -1,6 +1,6 @@
 -- The whitening sequence, and chips whitened by it.
 -- Assumes nothing.
-use Rattle.std.specs.Prelude.{ℕ, zero, suc, ◌+◌, ◌*◌, ◌%◌, Bool, true, false, ◌&&◌, List, [], ◌∷◌, take, ◌==◌, bit_xor, slice_index}
+use Rattle.std.specs.Prelude.{ℕ, zero, suc, ◌+◌, ◌*◌, ◌%◌, Bool, true, ◌&&◌, List, [], ◌∷◌, take, ◌==◌, bit_xor, slice_index}
 use Rattle.linecode.specs.Codes.{Code}
 
 -- u_(k-1), u_(k-2), .. u_(k-9), from u_(-1) = 1 and eight zeros before it; u_k is the sum modulo 2 of u_(k-5) and u_(k-9)

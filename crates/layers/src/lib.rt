@@ -1,4 +1,6 @@
 // Layers over line codes, which are line codes again: alternation and whitening.
+#![tactic(auto)]
+
 mod alternating;
 pub mod laws;
 mod whitened;

@@ -1,16 +1,15 @@
 -- What spreading and despreading answer, by the tests that the code makes, and what an accepted slice of chips is.
 -- Assumes nothing.
-use Rattle.std.proofs.Common.{◌≡◌, ℕ, zero, suc, ◌+◌, ◌^◌, ◌<◌, ◌≤◌, Bool, true, false, cond, eqb, ltb, ◌⊎◌, List, [], ◌∷◌, length, get_or, set, Ok, Err, Result, sym, refl, ap, ◌∙◌, inl, inr, ⊎_elim, arith}
-use Rattle.std.proofs.lemmas.Bool.{eq-eqb, lt-ltb, ne_eqb, le-ltb, cond-true, cond-false, cases_Bool, eqb-true, eqb-false}
+use Rattle.std.proofs.Common.{◌≡◌, ℕ, ◌^◌, ◌<◌, ◌≤◌, Bool, eqb, ltb, List, length, get_or, Ok, Err, sym, refl, ap, ◌∙◌, ⊎_elim, arith}
+use Rattle.std.proofs.lemmas.Bool.{eq-eqb, lt-ltb, le-ltb, cond-true, cond-false, cases_Bool, eqb-true, eqb-false}
 use Rattle.std.specs.List.{prefix_len}
-use Rattle.faults.specs.declared.Fault.{Fault}
 use Rattle.faults.specs.declared.Layer.{Layer}
 use Rattle.faults.specs.declared.Layer.TheVariants.{Line}
 use Rattle.faults.specs.declared.FaultKind.TheVariants.{GroupValue}
 use Rattle.faults.specs.Refusals.{fault}
 use Rattle.linecode.specs.Chips.{judged, unless_refused, is_chip}
 use Rattle.linecode.specs.Codes.{Code, value_of, despread_answer, spread_answer, spread_chips}
-use Rattle.linecode.specs.Judging.{judged_length, judged_bad, leading_every}
+use Rattle.linecode.specs.Judging.{judged_length, leading_every}
 
 -- a slice that was accepted has the right length, and its chips are 0 or 1
 pub record Accepted (n : ℕ) (xs : List ℕ) : Type 0 where

@@ -1,12 +1,11 @@
 -- A group with few damaged chips still gives its value: what is heard of chips that were judged good.
 -- Assumes nothing.
-use Rattle.std.proofs.Common.{◌≡◌, ℕ, ◌+◌, ◌-◌, ◌*◌, ◌^◌, ◌<◌, ◌≤◌, Bool, true, false, ◌≢◌, ◌⊎◌, List, length, get_or, Ok, Result, sym, refl, ap, ◌∙◌, subst, ⊎_elim, arith}
+use Rattle.std.proofs.Common.{◌≡◌, ℕ, ◌-◌, ◌*◌, ◌^◌, ◌<◌, ◌≤◌, Bool, false, List, length, Ok, Result, sym, ◌∙◌, subst, ⊎_elim, arith}
 use Rattle.std.proofs.lemmas.Bool.{cases_eq, false≢true}
 use Rattle.faults.specs.declared.Fault.{Fault}
 use Rattle.faults.specs.declared.Layer.TheVariants.{Line}
-use Rattle.linecode.specs.Chips.{judged}
 use Rattle.linecode.specs.Codes.{Code, Lawful, Width, distance, nearest, value_of, despread_answer, least_distance}
-use Rattle.linecode.specs.Promises.{Nearest, Heard, HeardUnlessRefused, LeastDistance}
+use Rattle.linecode.specs.Promises.{Nearest, HeardUnlessRefused, LeastDistance}
 use Rattle.linecode.specs.Judging.{judged_good, every_leading}
 use Rattle.linecode.proofs.Answers.{despread_ok, despread_was}
 use Rattle.linecode.proofs.Least.{is_least}

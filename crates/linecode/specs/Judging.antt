@@ -1,11 +1,9 @@
 -- How a slice of chips is judged, by what its front tells.
 -- Assumes nothing.
-use Rattle.std.specs.Prelude.{◌≡◌, ℕ, zero, suc, ◌+◌, ◌<◌, ◌≤◌, Bool, true, false, cond, ◌⊎◌, List, [], ◌∷◌, length, Ok, Err, Result, ◌≢◌, slice_index, refl}
-use Rattle.std.proofs.Common.{sym, ap, ◌∙◌, inl, inr, ⊎_elim, arith, le_of_suc-le-suc, not-suc-le-zero}
+use Rattle.std.specs.Prelude.{◌≡◌, ℕ, zero, suc, ◌+◌, ◌<◌, List, [], ◌∷◌, length, Ok, Err, ◌≢◌, slice_index, refl}
+use Rattle.std.proofs.Common.{sym, ◌∙◌, ⊎_elim, arith, le_of_suc-le-suc, not-suc-le-zero}
 use Rattle.std.specs.List.{prefix_len}
-use Rattle.std.proofs.lemmas.Bool.{eqb-true, eqb-false, eq-eqb, ne_eqb, ltb-true, ltb-false, lt-ltb, cases_Bool, cond-true, cond-false}
-use Rattle.std.proofs.lemmas.List.Sums.{prefix_len-le-length}
-use Rattle.faults.specs.declared.Fault.{Fault}
+use Rattle.std.proofs.lemmas.Bool.{eq-eqb, ne_eqb, ltb-true, lt-ltb, cases_Bool, cond-true, cond-false}
 use Rattle.faults.specs.declared.Layer.{Layer}
 use Rattle.faults.specs.declared.FaultKind.TheVariants.{ChipCount, ChipValue}
 use Rattle.faults.specs.Refusals.{fault}

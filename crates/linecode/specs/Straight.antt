@@ -1,6 +1,6 @@
 -- The straight code: one bit to a group, and the chip is the bit.
 -- Assumes nothing.
-use Rattle.std.specs.Prelude.{◌≡◌, ℕ, zero, suc, ◌<◌, List, [], ◌∷◌, slice_index, refl}
+use Rattle.std.specs.Prelude.{ℕ, zero, suc, ◌<◌, [], ◌∷◌, slice_index, refl}
 use Rattle.std.proofs.Common.{ap, inl, arith}
 use Rattle.linecode.specs.Codes.{Code, Lawful}
 

@@ -1,4 +1,6 @@
 // The theorems that decoding rests on: the survivors of the trellis trace back the nearest message, and two messages are far apart.
+#![tactic(auto)]
+
 ghost use Rattle.costs.specs.Kind.{most_charges};
 ghost use Rattle.nearest.specs.Distance.{DistanceTen};
 ghost use Rattle.nearest.specs.Messages.{MessagesArePsdus};

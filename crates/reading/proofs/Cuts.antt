@@ -1,6 +1,6 @@
 -- The chips of one group of a block that was accepted.
 -- Assumes nothing.
-use Rattle.std.proofs.Common.{◌≡◌, ℕ, zero, suc, ◌+◌, ◌-◌, ◌*◌, ◌<◌, ◌≤◌, min, List, length, get_or, take, drop, Ok, sym, refl, ap, ◌∙◌, mul-le-mul_right, suc-mul, arith, length-drop, length-take, get_or-drop, get_or-take}
+use Rattle.std.proofs.Common.{◌≡◌, ℕ, suc, ◌+◌, ◌-◌, ◌*◌, ◌<◌, ◌≤◌, List, length, take, drop, Ok, sym, refl, ap, ◌∙◌, mul-le-mul_right, suc-mul, arith, length-drop, length-take, get_or-drop, get_or-take}
 use Rattle.faults.specs.declared.Layer.TheVariants.{Line, Frame}
 use Rattle.linecode.specs.Codes.{Code, despread_answer}
 use Rattle.linecode.specs.Chips.{judged}

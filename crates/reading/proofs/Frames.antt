@@ -1,13 +1,12 @@
 -- A frame is read by its blocks.
 -- Assumes nothing.
-use Rattle.std.proofs.Common.{◌≡◌, ℕ, ◌+◌, ◌*◌, List, ◌++◌, sym, refl, ap, ◌∙◌}
-use Rattle.frames.specs.Sent.{Frame, block_groups}
-use Rattle.frames.specs.Heard.{encoded_bit, encoded_doubt, observed, doubtful}
+use Rattle.std.proofs.Common.{◌+◌, ◌*◌, ◌++◌, sym, refl, ap, ◌∙◌}
+use Rattle.frames.specs.Sent.{block_groups}
+use Rattle.frames.specs.Heard.{encoded_doubt, observed, doubtful}
 use Rattle.frames.specs.Joined.{block_observed, block_doubtful, last_bit, last_doubt}
 use Rattle.frames.proofs.Joins.{blocks_join}
-use Rattle.costs.specs.Observed.{observation, bit_of, doubt_of}
-use Rattle.reading.specs.Reading.{block_seen, last_seen}
-use Rattle.reading.specs.Frames.{frame_seen, frame_last, FrameReads}
+use Rattle.costs.specs.Observed.{observation, doubt_of}
+use Rattle.reading.specs.Frames.{frame_last, FrameReads}
 use Rattle.reading.proofs.Blocks.{bit_of_lem, doubt_of_lem}
 
 pub frame_reads : FrameReads

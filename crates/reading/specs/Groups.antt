@@ -1,6 +1,6 @@
 -- What the values of a block's groups say of its encoded and decoded bits.
 -- Assumes nothing.
-use Rattle.std.specs.Prelude.{ℕ, ◌+◌, ◌/◌, ◌%◌, Bool, false, List, map, length, Ok, Err, Result, slice_index_or}
+use Rattle.std.specs.Prelude.{ℕ, ◌/◌, ◌%◌, Bool, false, List, map, length, Ok, Err, Result, slice_index_or}
 use Rattle.std.specs.List.{range_with_len}
 use Rattle.faults.specs.declared.Fault.{Fault}
 use Rattle.linecode.specs.Codes.{Code}

@@ -1,4 +1,6 @@
 // The reading half of a block: from its chips to what is observed of its 176 code bits.
+#![tactic(auto)]
+
 ghost use Rattle.std.specs.Prelude.{◌≡◌, ℕ, ◌+◌, ◌*◌, ◌/◌, ◌^◌, ◌<◌, ◌≤◌, map, length};
 ghost use Rattle.std.specs.List.{range_with_len};
 ghost use Rattle.codebits.specs.Interleaving.{moved_in};

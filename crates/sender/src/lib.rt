@@ -1,4 +1,6 @@
 // The sending end: a check of a PSDU, and a cursor over it that writes one block's chips after the other.
+#![tactic(auto)]
+
 mod check;
 mod coding;
 mod cursor;

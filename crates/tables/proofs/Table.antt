@@ -1,6 +1,6 @@
 -- The words of a table as its digits hold them.
 -- Assumes nothing.
-use Rattle.std.proofs.Common.{◌≡◌, ℕ, ◌+◌, ◌-◌, ◌*◌, ◌^◌, ◌<◌, ◌≤◌, List, [], length, get_or, sym, ap, ◌∙◌, arith}
+use Rattle.std.proofs.Common.{◌≡◌, ℕ, ◌-◌, ◌*◌, ◌^◌, ◌<◌, List, [], length, get_or, sym, ap, ◌∙◌, arith}
 use Rattle.std.proofs.lemmas.List.{length-map}
 use Rattle.linecode.specs.Chips.{chip_of, word_of}
 use Rattle.linecode.specs.Codes.{distance, nearest, value_of}
@@ -11,7 +11,7 @@ use Rattle.tables.specs.CodeLaws.{tables_sound}
 use Rattle.tables.specs.Search.{part_distance}
 use Rattle.tables.specs.TableLaws.{Sound, sound, word_length}
 use Rattle.tables.specs.declared.code.TableCode.{TableCode}
-use Rattle.tables.proofs.Parts.{row_length, part_row, part_chips, word_within}
+use Rattle.tables.proofs.Parts.{row_length, part_row, part_chips}
 
 module _ (t : TableCode) (digits : List ℕ) (is : word_of digits ≡ row (words t)) where
   pub facts : Sound (group_bits t) (word_chips t) (words t)

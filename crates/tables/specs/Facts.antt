@@ -1,6 +1,6 @@
 -- Facts that the tables obey, as a guard against a slip of the pen, and their least distances.
 -- Assumes nothing.
-use Rattle.std.specs.Prelude.{◌≡◌, ℕ, ◌-◌, ◌*◌, Bool, true, false, List, [], ◌∷◌, ◌++◌, map, length, take, drop, bit_xor, slice_index_or}
+use Rattle.std.specs.Prelude.{◌≡◌, ℕ, ◌-◌, ◌*◌, List, [], ◌∷◌, ◌++◌, map, length, take, drop, bit_xor, slice_index_or}
 use Rattle.std.specs.List.{range_with_len}
 use Rattle.linecode.specs.Codes.{least_distance}
 use Rattle.linecode.specs.Straight.{straight}

@@ -1,11 +1,11 @@
 -- What the test of a table tells: its words are a line code.
 -- Assumes nothing.
-use Rattle.std.specs.Prelude.{◌≡◌, ℕ, zero, suc, ◌+◌, ◌^◌, ◌<◌, ◌≤◌, Bool, true, false, cond, not, ◌&&◌, ◌||◌, T, ◌⊎◌, List, [], ◌∷◌, length, get_or, ◌==◌, ◌≢◌, nat_le, slice_index, slice_index_or, refl}
-use Rattle.std.proofs.Common.{sym, ap, subst, ◌∙◌, inl, inr, ⊎_elim, arith, le_of_suc-le-suc, not-suc-le-zero}
+use Rattle.std.specs.Prelude.{◌≡◌, ℕ, zero, suc, ◌^◌, ◌<◌, ◌≤◌, Bool, true, false, not, ◌&&◌, ◌||◌, T, List, [], ◌∷◌, length, get_or, ◌==◌, ◌≢◌, nat_le, slice_index, slice_index_or, refl}
+use Rattle.std.proofs.Common.{sym, ap, ◌∙◌, inl, inr, ⊎_elim, arith, le_of_suc-le-suc, not-suc-le-zero}
 use Rattle.std.specs.List.{prefix_len}
 use Rattle.std.proofs.lemmas.Bool.{eqb-true, eq-eqb, leb-true, and_parts, and_from, or_cases, not-true, both_ways}
 use Rattle.linecode.specs.Chips.{is_chip}
-use Rattle.linecode.specs.Codes.{Code, Lawful, Width}
+use Rattle.linecode.specs.Codes.{Lawful, Width}
 use Rattle.tables.specs.Tables.{is_width, is_word, same, absent, distinct, all_words, sound_table, table_code}
 use Rattle.linecode.specs.Judging.{leading_every}
 

@@ -1,4 +1,6 @@
 // Line codes that are given by tables of words: one piece of code, and the tables as data.
+#![tactic(auto)]
+
 mod code;
 pub mod facts;
 mod rows;

@@ -1,4 +1,6 @@
 // The decoder's running part over memory that its caller lends: the 88 steps of a block through the trellis, and the trace back of a PSDU.
+#![tactic(auto)]
+
 ghost use Rattle.std.specs.Prelude.{◌≡◌, ◌+◌, ◌*◌, ◌<◌, ◌≤◌, length};
 ghost use Rattle.codebits.specs.Message.{block_bits, blocks, message_length};
 ghost use Rattle.nearest.specs.Messages.{longest_psdu};

@@ -1,4 +1,4 @@
-use Rattle.std.proofs.Common.{◌≡◌, ℕ, ◌*◌, ◌/◌, ◌<◌, ◌≤◌, length, sym, refl, ap, ◌∙◌, div-le_self, arith, length-take}
+use Rattle.std.proofs.Common.{◌≡◌, ◌/◌, length, refl, ◌∙◌, div-le_self, arith, length-take}
 use Rattle.frames.proofs.Widths.{some_bits, few_bits}
 use Rattle.std.proofs.lemmas.Nat.{div_below}
 use Rattle.reading.proofs.Blocks.{whole_block, told_width, room_of, read_answer_lem, read_after_lem}

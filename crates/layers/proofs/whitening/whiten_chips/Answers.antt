@@ -1,4 +1,4 @@
-use Rattle.std.proofs.Common.{◌≡◌, ◌+◌, ◌++◌, get_or, take, drop, set, sym, ap, ◌∙◌, rules}
+use Rattle.std.proofs.Common.{◌+◌, ◌++◌, get_or, take, drop, set, sym, ap, ◌∙◌, rules}
 use lib.Bits.{bit_xor}
 use Rattle.layers.specs.Whitening.{whiten}
 use Rattle.layers.proofs.Sequence.{whiten_more, whiten_all}

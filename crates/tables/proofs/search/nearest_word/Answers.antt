@@ -1,4 +1,4 @@
-use Rattle.std.proofs.Common.{◌≡◌, ℕ, ◌+◌, ◌-◌, Bool, length, sym, arith, rules}
+use Rattle.std.proofs.Common.{◌≡◌, ℕ, ◌+◌, ◌-◌, Bool, length, sym, arith}
 use Rattle.linecode.proofs.Nearness.{nearest_none, nearest_takes, nearest_ties, nearest_keeps}
 use Rattle.tables.specs.Search.{part_distance}
 use Rattle.tables.proofs.Parts.{word_within}

@@ -1,4 +1,4 @@
-use Rattle.std.proofs.Common.{◌≡◌, sym, ap, ◌∙◌, rules}
+use Rattle.std.proofs.Common.{sym, ap, ◌∙◌, rules}
 use Rattle.linecode.specs.Codes.{despread_answer}
 use Rattle.linecode.proofs.Hearing.{heard}
 use Rattle.bands.specs.Lines.{line_code, line_lawful}

@@ -1,4 +1,4 @@
-use Rattle.std.proofs.Common.{◌≡◌, refl, ap, ◌∙◌, rules}
+use Rattle.std.proofs.Common.{refl, ap, ◌∙◌, rules}
 use Rattle.linecode.specs.Codes.{despread_answer}
 use Rattle.linecode.proofs.Hearing.{heard}
 use Rattle.layers.specs.Layers.{in_use, alternating}

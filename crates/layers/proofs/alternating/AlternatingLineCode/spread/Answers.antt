@@ -1,4 +1,4 @@
-use Rattle.std.proofs.Common.{◌≡◌, length, refl, ap, ◌∙◌}
+use Rattle.std.proofs.Common.{length, refl, ap, ◌∙◌}
 use Rattle.linecode.specs.Codes.{spread_answer, spread_chips}
 use Rattle.layers.specs.Layers.{in_use, alternating}
 use Rattle.layers.specs.LayerLaws.{in_use_make}

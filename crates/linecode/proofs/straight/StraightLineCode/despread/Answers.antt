@@ -1,4 +1,4 @@
-use Rattle.std.proofs.Common.{◌≡◌, ℕ, false, List, get_or, sym, ap, ◌∙◌, arith, rules}
+use Rattle.std.proofs.Common.{ℕ, false, List, get_or, sym, ap, ◌∙◌, arith, rules}
 use Rattle.faults.specs.declared.Layer.TheVariants.{Line}
 use Rattle.linecode.specs.Codes.{distance, nearest}
 use Rattle.linecode.specs.Straight.{straight, straight_lawful}

@@ -1,4 +1,4 @@
-use Rattle.std.proofs.Common.{◌≡◌, ◌-◌, ◌*◌, ◌^◌, length, Ok, sym, ap, ◌∙◌, arith, rules}
+use Rattle.std.proofs.Common.{◌≡◌, ◌-◌, ◌*◌, Ok, sym, ap, ◌∙◌, arith, rules}
 use Rattle.faults.specs.declared.Layer.TheVariants.{Line}
 use Rattle.linecode.specs.Chips.{judged}
 use Rattle.linecode.specs.Codes.{nearest}

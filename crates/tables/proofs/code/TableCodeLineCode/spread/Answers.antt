@@ -1,4 +1,4 @@
-use Rattle.std.proofs.Common.{◌≡◌, ◌+◌, ◌*◌, ◌^◌, ◌<◌, ◌≤◌, length, sym, ap, ◌∙◌, arith}
+use Rattle.std.proofs.Common.{◌+◌, ◌*◌, ◌^◌, ◌≤◌, length, ap, ◌∙◌, arith}
 use Rattle.linecode.specs.Chips.{word_of}
 use Rattle.linecode.proofs.Answers.{spread_ok, spread_word, spread_large, spread_kept}
 use Rattle.linecode.proofs.Hearing.{values}
