@@ -1,4 +1,6 @@
 // Reads a capture from standard input, and prints the report on it.
+#![tactic(auto)]
+
 use captures::report;
 use std::io::{Read, Write};
 

@@ -1,4 +1,6 @@
 // Makes a capture of a frame and writes it to standard output, with chips of the PSDU flipped if wanted.
+#![tactic(auto)]
+
 mod damage;
 mod making;
 mod words;

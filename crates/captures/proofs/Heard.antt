@@ -1,6 +1,6 @@
 -- The calls that hand section 3 to a receiver: what they leave, and what the close then returns.
 -- Assumes nothing.
-use Rattle.std.proofs.Common.{◌≡◌, ℕ, zero, suc, ◌+◌, ◌*◌, ◌<◌, ◌≤◌, List, [], ◌∷◌, ◌++◌, map, length, take, drop, Ok, Err, Result, sym, refl, ap, ◌∙◌, subst, add-mul, add-one, arith}
+use Rattle.std.proofs.Common.{◌≡◌, ℕ, suc, ◌+◌, ◌*◌, ◌<◌, ◌≤◌, List, ◌++◌, map, length, take, drop, Ok, Err, Result, sym, refl, ap, ◌∙◌, subst, add-mul, add-one, arith}
 use Rattle.std.specs.List.{range_with_len}
 use Rattle.std.proofs.lemmas.List.FromFn.{length-map-range_with_len, map-range_with_len_more}
 use Rattle.std.proofs.lemmas.List.{take_at, drop-drop}
@@ -10,11 +10,11 @@ use Rattle.faults.specs.declared.Layer.TheVariants.{Frame as FrameLayer}
 use Rattle.linecode.specs.Chips.{judged}
 use Rattle.linecode.specs.Codes.{Code, Lawful}
 use Rattle.codebits.specs.Message.{blocks, message_length, octets_of}
-use Rattle.frames.specs.Sent.{Frame, block_chips, part}
+use Rattle.frames.specs.Sent.{block_chips, part}
 use Rattle.costs.specs.Kind.{Kind}
 use Rattle.costs.specs.declared.Observation.{Observation}
 use Rattle.header.specs.declared.model.Header.{Header}
-use Rattle.nearest.specs.Path.{traced_psdu, traced_psdu_cost}
+use Rattle.nearest.specs.Path.{traced_psdu}
 use Rattle.reading.specs.Frames.{frame_seen}
 use Rattle.trellis.specs.Frame.{Holds, BlocksRunTheTrellis}
 use Rattle.trellis.specs.Memory.{cost_in}

@@ -12,7 +12,7 @@ use Rattle.header.specs.declared.model.Header.{Header}
 use Rattle.nearest.specs.Path.{traced_psdu, traced_psdu_cost}
 use Rattle.reading.specs.Frames.{frame_seen}
 use Rattle.receiver.specs.Receiver.{frame_of}
-use Rattle.receiver.specs.Runs.{listening, within, Calls, start, begin, block, State, after}
+use Rattle.receiver.specs.Runs.{within, Calls, start, begin, block, State, after}
 use Rattle.receiver.specs.Book.{Entries, book}
 use Rattle.receiver.specs.declared.states.OpenFrame.{OpenFrame}
 use Rattle.captures.specs.Sections.{bind}

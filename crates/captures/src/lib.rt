@@ -1,4 +1,6 @@
 // A capture: sections in a fixed order, each after its count in four octets, least first. What it means, and the lines that are printed of it.
+#![tactic(auto)]
+
 mod cost;
 mod decoding;
 mod lines;

@@ -14,9 +14,6 @@ use Rattle.codebits.proofs.Numbers.{one_small}
 grown_more : (a n : ℕ) (t : Bool) → a ≤ n → grown a t ≤ suc n
 grown_more a n t h = omega (arith, one_small t)
 
-grown_small : (a m : ℕ) (t : Bool) → a ≤ m → m < most_charges → grown a t ≡ a + one t
-grown_small a m t h few = omega (arith, one_small t)
-
 leb_add : (a b c : ℕ) → nat_le (a + c) (b + c) ≡ nat_le a b
 leb_add a b c = grind (arith, nat_tests)
 
@@ -40,7 +37,8 @@ count_laws = record {
   antisymmetric = λ a b _ _ p q. let e : a.differing ≡ b.differing = grind (arith, nat_tests) in ap counted e;
   transitive = λ a b c _ _ _ p q. grind (arith, nat_tests);
   same_charge = λ m few a b o x ra rb.
-      rw (grown_small a.differing m (differs o x) (count_reached ra) few, grown_small b.differing m (differs o x) (count_reached rb) few)
+      let grows : (n : ℕ) → n ≤ m → grown n (differs o x) ≡ n + one (differs o x) = λ n h. omega (arith, one_small (differs o x)) in
+      rw (grows a.differing (count_reached ra), grows b.differing (count_reached rb))
       (leb_add a.differing b.differing (one (differs o x)));
 }
 
@@ -62,11 +60,12 @@ graded_laws = record {
       ap (λ n. graded n a.doubtful) e ∙ ap (graded b.sure) f;
   transitive = λ a b c _ _ _ p q. grind (arith, nat_tests);
   same_charge = λ m few a b o x ra rb.
+      let grows : (n : ℕ) (t : Bool) → n ≤ m → grown n t ≡ n + one t = λ n t h. omega (arith, one_small t) in
       rw (
-        grown_small a.sure m (surely_differs o x) (graded_reached ra).0 few,
-        grown_small b.sure m (surely_differs o x) (graded_reached rb).0 few,
-        grown_small a.doubtful m (doubtfully_differs o x) (graded_reached ra).1 few,
-        grown_small b.doubtful m (doubtfully_differs o x) (graded_reached rb).1 few,
+        grows a.sure (surely_differs o x) (graded_reached ra).0,
+        grows b.sure (surely_differs o x) (graded_reached rb).0,
+        grows a.doubtful (doubtfully_differs o x) (graded_reached ra).1,
+        grows b.doubtful (doubtfully_differs o x) (graded_reached rb).1,
         ltb_add a.sure b.sure (one (surely_differs o x)),
         eqb_add a.sure b.sure (one (surely_differs o x)),
         leb_add a.doubtful b.doubtful (one (doubtfully_differs o x)),

@@ -1,4 +1,6 @@
 // The worked examples of the chain and vectors worked by hand, each a theorem about the definitions.
+#![tactic(auto)]
+
 ghost use Rattle.examples.specs.Worked.{WorkedExamples};
 ghost use Rattle.examples.specs.Vectors.{Groups, Frames, Headers, Calls};
 

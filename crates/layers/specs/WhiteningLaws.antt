@@ -4,7 +4,7 @@ use Rattle.std.specs.Prelude.{◌≡◌, ℕ, zero, suc, ◌+◌, ◌*◌, ◌%�
 use Rattle.std.proofs.Common.{sym, ap, ◌∙◌, ⊎_elim, arith, le_of_suc-le-suc, not-suc-le-zero}
 use Rattle.std.specs.Int.Bits.{xor_assoc, xor_self, xor_zero_r}
 use Rattle.std.proofs.lemmas.Nat.{xor_lt}
-use Rattle.std.specs.List.{AllByRecursion as All}
+use Rattle.std.specs.List.{AllByRecursion}
 use Rattle.std.proofs.ByRecursion.{All-take}
 use Rattle.std.proofs.lemmas.Bool.{eqb-true, eqb-false, eq-eqb, ne_eqb, cases_Bool}
 use Rattle.linecode.specs.Codes.{Code, Lawful, distance}
@@ -14,15 +14,15 @@ xor_back : (x s : ℕ) → bit_xor (bit_xor x s) s ≡ x
 xor_back x s = xor_assoc x s s ∙ ap (bit_xor x) (xor_self s) ∙ xor_zero_r x
 
 -- every element of the sequence is 0 or 1
-get_d_binary : (us : List ℕ) (i : ℕ) → All (λ x. x < 2) us → slice_index us i < 2
+get_d_binary : (us : List ℕ) (i : ℕ) → AllByRecursion (λ x. x < 2) us → slice_index us i < 2
 get_d_binary [] i h = omega arith
 get_d_binary (x ∷ xs) zero h = h.0
 get_d_binary (x ∷ xs) (suc i) h = get_d_binary xs i h.1
 
-after_binary : (us : List ℕ) → All (λ x. x < 2) us → after us < 2
+after_binary : (us : List ℕ) → AllByRecursion (λ x. x < 2) us → after us < 2
 after_binary us h = xor_lt 1 (slice_index us 4) (slice_index us 8) (get_d_binary us 4 h) (get_d_binary us 8 h)
 
-register_binary : (k : ℕ) → All (λ x. x < 2) (register k)
+register_binary : (k : ℕ) → AllByRecursion (λ x. x < 2) (register k)
 unfolding register
 register_binary zero = (omega arith, (omega arith, (omega arith, (omega arith, (omega arith, (omega arith, (omega arith, (omega arith, (omega arith, tt)))))))))
 register_binary (suc k) = (after_binary (register k) (register_binary k), All-take (λ x. x < 2) 8 (register k) (register_binary k))

@@ -1,8 +1,8 @@
 -- The chain of a band and mode is that of its header and line code.
 -- Assumes nothing.
-use Rattle.std.proofs.Common.{◌≡◌, ℕ, ◌≤◌, List, length, is_some, Some, Ok, sym, refl, ap, ◌∙◌, subst}
+use Rattle.std.proofs.Common.{ℕ, ◌≤◌, length, is_some, Ok, sym, ap, ◌∙◌, subst}
 use Rattle.bands.specs.Lines.{line_code, line_lawful}
-use Rattle.bands.specs.Modes.{psdu_line, psdu_differential}
+use Rattle.bands.specs.Modes.{psdu_differential}
 use Rattle.codebits.specs.Message.{IsPsdu, message_length}
 use Rattle.frames.specs.Sent.{Frame, block_chips, sent_chips, part}
 use Rattle.costs.specs.Kind.{Kind}
@@ -10,7 +10,7 @@ use Rattle.costs.specs.declared.Observation.{Observation}
 use Rattle.header.specs.Reading.{Fields}
 use Rattle.header.proofs.Back.{headers_back}
 use Rattle.promise.specs.Clean.{CleanFramesComeBack}
-use Rattle.promise.specs.Chain.{written_fields, EveryChainReturns}
+use Rattle.promise.specs.Chain.{EveryChainReturns}
 
 pub chain_returns : {C : Type 0} (kind : Kind Observation C) → CleanFramesComeBack kind → EveryChainReturns kind
 chain_returns kind clean b m x is q iq fits h said costs words earlier room hc hw hr =

@@ -1,6 +1,6 @@
 -- The calls that receive a PSDU as it was sent are all accepted, and return it at a cost of nothing.
 -- Assumes nothing.
-use Rattle.std.proofs.Common.{◌≡◌, ℕ, zero, suc, ◌+◌, ◌-◌, ◌*◌, ◌^◌, ◌<◌, ◌≤◌, List, [], ◌∷◌, ◌++◌, map, length, get_or, take, drop, Ok, Err, Result, sym, refl, ap, ◌∙◌, subst, mul_assoc, suc-mul, add-one, arith, take-add}
+use Rattle.std.proofs.Common.{◌≡◌, ℕ, zero, suc, ◌+◌, ◌*◌, ◌^◌, ◌<◌, ◌≤◌, List, [], ◌++◌, map, length, take, drop, Ok, Err, Result, sym, refl, ap, ◌∙◌, subst, mul_assoc, suc-mul, add-one, arith, take-add}
 use Rattle.std.specs.List.{range_with_len, flat_map}
 use Rattle.std.proofs.lemmas.List.FromFn.{length-map-range_with_len, map-range_with_len_more}
 use Rattle.std.proofs.lemmas.List.{flat_map_more, take_all}
@@ -11,7 +11,7 @@ use Rattle.linecode.specs.Chips.{judged}
 use Rattle.linecode.specs.Codes.{Code, Lawful}
 use Rattle.linecode.specs.Judging.{judged_good, every_leading}
 use Rattle.codebits.specs.Message.{IsPsdu, blocks, message_length}
-use Rattle.frames.specs.Sent.{Frame, psdu_bit, spread_groups, block_groups, block_chips, frame_chips, groups, sent_chips, part}
+use Rattle.frames.specs.Sent.{Frame, psdu_bit, spread_groups, block_groups, block_chips, sent_chips, part}
 use Rattle.frames.proofs.Cuts.{sent_cut}
 use Rattle.frames.proofs.Parts.{part_ends, groups_binary, groups_length}
 use Rattle.frames.proofs.Widths.{groups_few}
@@ -31,7 +31,7 @@ use Rattle.receiver.specs.Runs.{listening, within, Calls, after}
 use Rattle.receiver.specs.Book.{Entries, chips_of, entered, book, book_judged}
 use Rattle.receiver.specs.Promise.{Returned, refusal}
 use Rattle.receiver.proofs.Promised.{closes_nearest, judged_by_the_book}
-use Rattle.promise.specs.Clean.{sent_block, sent_calls, ComesBack, CleanFramesComeBack}
+use Rattle.promise.specs.Clean.{sent_block, sent_calls, CleanFramesComeBack}
 
 -- parts one after the other
 pub parts_joined : (m : ℕ) (xs : List ℕ) (n : ℕ) → flat_map (λ (x : List ℕ). x) (map (part m xs) (range_with_len 0 n)) ≡ take (n * m) xs

@@ -1,9 +1,9 @@
 -- Where the harm is small, the nearest PSDU is the one that was sent.
 -- Assumes nothing.
-use Rattle.std.proofs.Common.{◌≡◌, ℕ, ◌*◌, List, length, Ok, sym, refl, ap, ◌∙◌, mul_assoc}
-use Rattle.linecode.specs.Codes.{Code, Lawful}
+use Rattle.std.proofs.Common.{◌≡◌, ℕ, List, length, sym, ◌∙◌, mul_assoc}
+use Rattle.linecode.specs.Codes.{Code}
 use Rattle.codebits.specs.Message.{IsPsdu, blocks}
-use Rattle.frames.specs.Sent.{block_groups, block_chips, frame_chips}
+use Rattle.frames.specs.Sent.{block_groups, frame_chips}
 use Rattle.costs.specs.Kind.{Kind}
 use Rattle.costs.specs.Kinds.{count_kind, graded_kind}
 use Rattle.costs.specs.declared.Observation.{Observation}
@@ -12,12 +12,11 @@ use Rattle.exact.proofs.Alone.{four_wrong_bits_mended, errors_and_erasures_mende
 use Rattle.trellis.specs.Frame.{BlocksRunTheTrellis}
 use Rattle.wrecked.specs.Mended.{NearEnough}
 use Rattle.wrecked.proofs.Few.{few_wrecked_mended}
-use Rattle.receiver.specs.Receiver.{octets, frame_by, close_step}
-use Rattle.receiver.specs.Runs.{within, Calls, after}
+use Rattle.receiver.specs.Receiver.{octets, frame_by}
+use Rattle.receiver.specs.Runs.{after}
 use Rattle.receiver.specs.Book.{Entries, chips_of, book}
-use Rattle.receiver.specs.Promise.{Returned}
 use Rattle.receiver.proofs.Promised.{closes_nearest, book_full}
-use Rattle.promise.specs.Sent.{seen, FourWrongBits, NineByDoubt, FewWrecked, ReturnedSent, AcceptedClosesReturn}
+use Rattle.promise.specs.Sent.{seen, FourWrongBits, NineByDoubt, AcceptedClosesReturn}
 
 module _ {C : Type 0} (kind : Kind Observation C) (Near : Code → Entries → List ℕ → Type 0) (runs : BlocksRunTheTrellis kind)
     (by_bits : (k : Code) (b : Entries) (q : List ℕ) → IsPsdu (octets b.header) q → Near k b q → AloneNearest kind (seen k b) (octets b.header) q)

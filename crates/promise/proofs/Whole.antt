@@ -1,8 +1,7 @@
 -- A frame of four zero octets in the band at 915 MHz, mode 3, sent and received.
 -- Assumes nothing.
-use Rattle.std.proofs.Common.{◌≡◌, ℕ, zero, suc, ◌<◌, false, List, [], ◌∷◌, length, get_or, replicate, refl, ap, arith, lit≤}
+use Rattle.std.proofs.Common.{ℕ, zero, suc, ◌<◌, false, List, get_or, replicate, refl, ap, arith, lit≤}
 use lib.ListN.{length-replicate}
-use Rattle.linecode.specs.Codes.{Lawful}
 use Rattle.linecode.specs.Straight.{straight, straight_lawful}
 use Rattle.bands.specs.declared.band.Band.TheVariants.{Mhz915}
 use Rattle.bands.specs.declared.band.RateMode.TheVariants.{Mode3}

@@ -1,6 +1,6 @@
 -- A PSDU that is received as it was sent comes back, at a cost of nothing.
 -- Assumes nothing.
-use Rattle.std.specs.Prelude.{◌≡◌, ℕ, zero, suc, ◌*◌, ◌<◌, ◌≤◌, List, ◌++◌, length, drop, Ok}
+use Rattle.std.specs.Prelude.{◌≡◌, ℕ, zero, suc, ◌<◌, ◌≤◌, List, ◌++◌, length, drop, Ok}
 use Rattle.linecode.specs.Codes.{Code, Lawful}
 use Rattle.codebits.specs.Message.{IsPsdu, blocks, message_length}
 use Rattle.frames.specs.Sent.{sent_chips, block_chips, part}

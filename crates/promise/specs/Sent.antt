@@ -6,7 +6,6 @@ use Rattle.codebits.specs.Bits.{count, differences}
 use Rattle.codebits.specs.Message.{IsPsdu}
 use Rattle.costs.specs.Differences.{sure_differences}
 use Rattle.costs.specs.Kind.{Kind}
-use Rattle.costs.specs.Kinds.{count_kind, graded_kind}
 use Rattle.costs.specs.Observed.{bits_of, doubts_of}
 use Rattle.costs.specs.declared.Observation.{Observation}
 use Rattle.nearest.specs.Messages.{psdu_bits, code_length}

@@ -1,4 +1,6 @@
 // The promise of the receiver over every list of calls, whole, and clean frames that come back.
+#![tactic(auto)]
+
 ghost use Rattle.costs.specs.Kinds.{count_kind, graded_kind};
 ghost use Rattle.promise.specs.Chain.{EveryChainReturns};
 ghost use Rattle.promise.specs.Clean.{CleanFramesComeBack};

@@ -1,15 +1,15 @@
 -- After every list of calls the receiver and its memory agree with the book.
 -- Assumes nothing.
-use Rattle.std.proofs.Common.{◌≡◌, ℕ, zero, suc, ◌+◌, ◌*◌, ◌<◌, ◌≤◌, Bool, false, List, [], ◌∷◌, ◌++◌, map, length, get_or, take, drop, Ok, Err, Result, sym, refl, ap, ◌∙◌, subst, suc-mul, add-one, arith, length-append, length-drop, length-take}
-use Rattle.std.specs.List.{range_with_len, flat_map}
-use Rattle.std.proofs.lemmas.List.FromFn.{get_or-map-range_with_len, length-map-range_with_len}
+use Rattle.std.proofs.Common.{◌≡◌, ℕ, suc, ◌+◌, ◌*◌, ◌<◌, ◌≤◌, false, List, [], ◌∷◌, ◌++◌, length, Ok, Err, Result, sym, refl, ap, ◌∙◌, subst, suc-mul, add-one, arith, length-append}
+use Rattle.std.specs.List.{flat_map}
+use Rattle.std.proofs.lemmas.List.FromFn.{get_or-map-range_with_len}
 use Rattle.std.proofs.lemmas.List.{flat_map_more}
 use Rattle.faults.specs.declared.Fault.{Fault}
 use Rattle.faults.specs.declared.Layer.TheVariants.{Frame as FrameLayer}
 use Rattle.linecode.specs.Codes.{Code, Lawful}
 use Rattle.linecode.proofs.Answers.{accepted}
-use Rattle.codebits.specs.Message.{blocks, block_bits, block_code_bits, message_length}
-use Rattle.frames.specs.Sent.{Frame, block_groups, block_chips}
+use Rattle.codebits.specs.Message.{blocks, block_bits}
+use Rattle.frames.specs.Sent.{Frame, block_chips}
 use Rattle.costs.specs.Kind.{Kind}
 use Rattle.costs.specs.declared.Observation.{Observation}
 use Rattle.costs.specs.declared.Observation.TheVariants.{Sure}
@@ -23,8 +23,7 @@ use Rattle.trellis.specs.Block.{costs_after, words_after}
 use Rattle.trellis.specs.Frame.{Holds, BlocksRunTheTrellis}
 use Rattle.receiver.specs.Judging.{block_judged}
 use Rattle.receiver.specs.Receiver.{Open, octets, differential, frame_by, position, shown, block_by, block_step}
-use Rattle.receiver.specs.Runs.{Phase, within, Calls, start, begin, block, close, abandon, State, after, after_block}
-use Rattle.receiver.specs.Book.{Entries, chips_of, entered, book, book_judged}
+use Rattle.receiver.specs.Book.{Entries, chips_of, entered, book_judged}
 use Rattle.receiver.proofs.Passing.{Acceptable, acceptable}
 
 -- What an open frame and the memory hold, by the book.

@@ -8,8 +8,8 @@ use Rattle.costs.specs.declared.Observation.{Observation}
 use Rattle.trellis.proofs.Frames.{costs_length, words_length}
 use Rattle.receiver.specs.Judging.{block_judged}
 use Rattle.receiver.specs.Receiver.{Open, octets, shown, block_by}
-use Rattle.receiver.specs.Runs.{Phase, within, Calls, start, begin, block, close, abandon, after}
-use Rattle.receiver.proofs.Passing.{Acceptable, acceptable}
+use Rattle.receiver.specs.Runs.{Phase, Calls, start, begin, block, close, abandon, after}
+use Rattle.receiver.proofs.Passing.{acceptable}
 
 module _ {C : Type 0} (kind : Kind Observation C) where
   module _ (k : Code) (f : Open) (costs : List C) (words : List ℕ) (chips : List ℕ) where

@@ -1,6 +1,6 @@
 -- What is known of a call that no check refused.
 -- Assumes nothing.
-use Rattle.std.proofs.Common.{◌≡◌, ℕ, ◌*◌, ◌<◌, ◌≤◌, Bool, true, false, ltb, leb, List, length, Ok, Err, Result, refl, arith}
+use Rattle.std.proofs.Common.{◌≡◌, ℕ, ◌<◌, ◌≤◌, Bool, true, false, List, Ok, Result, refl, arith}
 use Rattle.std.proofs.lemmas.Bool.{ltb-false, leb-false}
 use Rattle.faults.specs.declared.Fault.{Fault}
 use Rattle.faults.specs.declared.FaultKind.{FaultKind}
@@ -9,7 +9,7 @@ use Rattle.linecode.specs.Chips.{judged}
 use Rattle.linecode.specs.Codes.{Code}
 use Rattle.codebits.specs.Message.{blocks, message_length}
 use Rattle.frames.specs.Sent.{block_chips}
-use Rattle.receiver.specs.Judging.{refused_if, memory_judged, room_judged, block_judged, close_judged}
+use Rattle.receiver.specs.Judging.{refused_if, memory_judged, block_judged, close_judged}
 
 -- a check that does not refuse
 pub passed : (t : Bool) (kind : FaultKind) (place : ℕ) (later : Result (Unit {0}) Fault) (u : Unit {0}) → refused_if t kind place later ≡ Ok u → (t ≡ false) × (later ≡ Ok u)

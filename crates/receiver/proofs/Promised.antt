@@ -1,13 +1,12 @@
 -- Over every list of calls: the receiver agrees with the book, so each accepted close returns the nearest PSDU, and the book tells every refusal.
 -- Assumes nothing.
-use Rattle.std.proofs.Common.{◌≡◌, ℕ, ◌*◌, ◌≤◌, List, ◌++◌, length, drop, Ok, Err, Result, sym, refl, ap, ◌∙◌, subst, arith}
+use Rattle.std.proofs.Common.{◌≡◌, ℕ, ◌*◌, List, ◌++◌, length, drop, Ok, Err, Result, sym, refl, ap, ◌∙◌, subst, arith}
 use Rattle.faults.specs.declared.Fault.{Fault}
 use Rattle.linecode.specs.Codes.{Code, Lawful}
 use Rattle.codebits.specs.Message.{blocks}
 use Rattle.frames.specs.Sent.{block_chips}
 use Rattle.costs.specs.Kind.{Kind}
 use Rattle.costs.specs.declared.Observation.{Observation}
-use Rattle.header.specs.View.{view}
 use Rattle.header.specs.declared.model.Header.{Header}
 use Rattle.nearest.specs.Nearest.{NearestPsdu}
 use Rattle.reading.specs.Frames.{frame_seen}
@@ -18,7 +17,7 @@ use Rattle.receiver.specs.Judging.{block_judged, close_judged}
 use Rattle.receiver.specs.Receiver.{Open, octets, frame_by, block_by, block_step, close_by, close_step}
 use Rattle.receiver.specs.Runs.{within, Calls, begin, block, State, after}
 use Rattle.receiver.specs.Book.{Entries, chips_of, entered, book, book_judged}
-use Rattle.receiver.specs.Promise.{Returned, refusal, AcceptedClosesNearest, JudgedByTheBook, RefusalsByTheBook, NearestOfEveryList}
+use Rattle.receiver.specs.Promise.{Returned, refusal, AcceptedClosesNearest, JudgedByTheBook, RefusalsByTheBook}
 use Rattle.receiver.proofs.Passing.{closable}
 use Rattle.receiver.proofs.Numbers.{costs_stay, words_stay}
 use Rattle.receiver.proofs.Agreeing.{Agrees, opened, blocked}

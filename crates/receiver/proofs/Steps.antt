@@ -1,6 +1,6 @@
 -- The step of a call, by what its checks and its reading answered.
 -- Assumes nothing.
-use Rattle.std.proofs.Common.{◌≡◌, ℕ, ltb, leb, List, length, Ok, Err, Result, sym, refl, ap, ◌∙◌, arith}
+use Rattle.std.proofs.Common.{◌≡◌, ℕ, ltb, leb, List, length, Ok, Err, Result, refl, ap, ◌∙◌, arith}
 use Rattle.std.proofs.lemmas.Bool.{cond-false}
 use Rattle.faults.specs.declared.Fault.{Fault}
 use Rattle.faults.specs.declared.FaultKind.TheVariants.{ShortMemory, FullFrame}
@@ -13,7 +13,7 @@ use Rattle.costs.specs.Kind.{Kind}
 use Rattle.costs.specs.declared.Observation.{Observation}
 use Rattle.reading.specs.Reading.{last_seen, read_answer}
 use Rattle.receiver.specs.Judging.{refused_if, room_judged}
-use Rattle.receiver.specs.Receiver.{Open, Blocked, octets, position, block_by, block_step}
+use Rattle.receiver.specs.Receiver.{Open, octets, position, block_by, block_step}
 use Rattle.receiver.proofs.Passing.{passed}
 
 -- checks that passed go on to the later ones

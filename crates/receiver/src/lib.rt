@@ -1,4 +1,6 @@
 // The receiving end: a receiver whose states are types, over memory that its caller lends.
+#![tactic(auto)]
+
 mod promise;
 mod states;
 

@@ -1,4 +1,6 @@
 // Prints the report on each capture that an argument names.
+#![tactic(auto)]
+
 use captures::report;
 use std::{env, fs};
 

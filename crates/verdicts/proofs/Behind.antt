@@ -1,12 +1,12 @@
 -- A capture as long as the longest is judged by itself, whatever follows it.
 -- Assumes nothing.
-use Rattle.std.proofs.Common.{◌≡◌, ℕ, ◌+◌, ◌-◌, ◌*◌, ◌/◌, ◌%◌, ◌<◌, ◌≤◌, Bool, true, false, cond, ◌&&◌, eqb, ltb, leb, ◌⊎◌, List, [], ◌∷◌, ◌++◌, length, get_or, take, drop, Some, None, Ok, Err, Option, Result, sym, refl, ap, ◌∙◌, inl, inr, ⊎_elim, mul-le-mul_right, div-lt_iff_lt-mul, mul-le-mul, arith, lit<, lit≤, length-append, length-drop, length-take}
+use Rattle.std.proofs.Common.{◌≡◌, ℕ, ◌+◌, ◌*◌, ◌/◌, ◌%◌, ◌<◌, ◌≤◌, Bool, true, false, cond, ◌&&◌, eqb, ltb, leb, ◌⊎◌, List, [], ◌∷◌, ◌++◌, length, take, drop, Some, None, Ok, Err, Option, Result, sym, refl, ap, ◌∙◌, inl, inr, ⊎_elim, mul-le-mul_right, div-lt_iff_lt-mul, mul-le-mul, arith, lit<, lit≤, length-append, length-drop, length-take}
 use Rattle.std.specs.List.{prefix_len}
 use Rattle.std.proofs.lemmas.List.{take-append-le, drop-append-le, get_or_append_left}
 use Rattle.std.proofs.lemmas.List.Sums.{prefix_len-le-length}
 use Rattle.std.proofs.lemmas.Bool.{cases_Bool, cond-true, cond-false, le-leb, eqb-false, ltb-false}
 use Rattle.faults.specs.declared.Fault.{Fault}
-use Rattle.faults.specs.declared.FaultKind.TheVariants.{Settings as WrongSettings, ChipValue, Section, BenchLength}
+use Rattle.faults.specs.declared.FaultKind.TheVariants.{Settings as WrongSettings, ChipValue, Section}
 use Rattle.faults.specs.declared.Layer.TheVariants.{Frame as FrameLayer, Bench}
 use Rattle.faults.specs.Refusals.{fault}
 use Rattle.linecode.specs.Chips.{is_chip}

@@ -1,12 +1,12 @@
 -- A clean capture is taken apart as it was put together.
 -- Assumes nothing.
-use Rattle.std.proofs.Common.{◌≡◌, ℕ, suc, ◌+◌, ◌*◌, ◌/◌, ◌%◌, ◌^◌, ◌<◌, ◌≤◌, Bool, true, false, cond, ◌&&◌, eqb, ltb, leb, List, [], ◌∷◌, ◌++◌, length, get_or, take, drop, Ok, Err, Result, sym, refl, ap, ◌∙◌, subst, mul_assoc, arith, length-append}
+use Rattle.std.proofs.Common.{◌≡◌, ℕ, ◌*◌, ◌≤◌, true, leb, List, [], ◌∷◌, ◌++◌, length, take, drop, Ok, Result, refl, ap, ◌∙◌, mul_assoc, arith, length-append}
 use Rattle.std.specs.List.{prefix_len}
 use Rattle.std.proofs.lemmas.List.{take_at, drop_at}
 use Rattle.std.proofs.lemmas.Bool.{cond-true, cond-false, le-leb, le-ltb, and_from}
 use Rattle.faults.specs.declared.Fault.{Fault}
 use Rattle.linecode.specs.Chips.{is_chip}
-use Rattle.linecode.specs.Codes.{Code, Lawful}
+use Rattle.linecode.specs.Codes.{Lawful}
 use Rattle.linecode.specs.Judging.{every_leading}
 use Rattle.linecode.specs.Straight.{straight_lawful}
 use Rattle.tables.specs.declared.code.TableCode.TheVariants.{Dsss4x1, Dsss16x1k0, Dsss16x1k1, Dsss32x1k0, Dsss32x1k1, Dsss8x4, Dsss16x4, Dsss32x4}
@@ -18,9 +18,8 @@ use Rattle.bands.specs.declared.band.Band.TheVariants.{Mhz780, Mhz868, Mhz915, M
 use Rattle.bands.specs.declared.band.RateMode.{RateMode}
 use Rattle.bands.specs.declared.band.RateMode.TheVariants.{Mode0, Mode1, Mode2, Mode3}
 use Rattle.bands.specs.Modes.{psdu_line, header_code}
-use Rattle.bands.specs.Numbers.{mode_number}
 use Rattle.codebits.specs.Message.{IsPsdu, blocks}
-use Rattle.frames.specs.Sent.{Frame, psdu_bit, spread_groups, block_groups, block_chips, groups, frame_chips, sent_chips}
+use Rattle.frames.specs.Sent.{Frame, psdu_bit, block_groups, block_chips, groups, sent_chips}
 use Rattle.frames.proofs.Cuts.{sent_cut}
 use Rattle.frames.proofs.Parts.{groups_binary, groups_length}
 use Rattle.frames.proofs.Widths.{groups_few}
@@ -32,7 +31,6 @@ use Rattle.exact.specs.Mended.{AloneNearest}
 use Rattle.header.specs.Phr.{has_mode}
 use Rattle.header.specs.Headers.{header_bits, header_length, header_octets, octet_stream, octet_chips, header_chips}
 use Rattle.header.specs.Reading.{Fields, read_answer}
-use Rattle.header.specs.Writing.{is_length}
 use Rattle.header.proofs.Back.{headers_back}
 use Rattle.header.proofs.Bands.{octets_long, few_preamble, header_lawful}
 use Rattle.nearest.specs.Nearest.{psdu_cost, NearestPsdu}
@@ -41,14 +39,12 @@ use Rattle.nearest.proofs.Path.{traces_psdu}
 use Rattle.reading.specs.Frames.{frame_seen}
 use Rattle.wrecked.proofs.Unharmed.{sent_unharmed}
 use Rattle.captures.specs.declared.cost.Cost.{Cost}
-use Rattle.captures.specs.declared.cost.Cost.TheVariants.{Count as CountOf, Graded as GradedOf}
 use Rattle.captures.specs.declared.settings.CostChoice.{CostChoice}
 use Rattle.captures.specs.declared.settings.CostChoice.TheVariants.{Count as ByCount, Graded as ByGraded}
-use Rattle.captures.specs.declared.settings.Settings.{Settings}
-use Rattle.captures.specs.Sections.{bind, refuse, count_of, settings_of, section_start, whole_of, section_of}
-use Rattle.captures.specs.Chips.{good_chips, Good, blocks_of}
+use Rattle.captures.specs.Sections.{bind, count_of, settings_of, section_start, whole_of, section_of}
+use Rattle.captures.specs.Chips.{good_chips}
 use Rattle.captures.specs.Decoding.{chips_for, decided_by, decoded}
-use Rattle.captures.specs.Captures.{longest, code_or, frame_after, counted, graded, decoded_as, Verdict, psdu_part, frame_part, header_part, verdict_of, lines_of}
+use Rattle.captures.specs.Captures.{longest, code_or, counted, graded, decoded_as, Verdict, psdu_part, frame_part, header_part, verdict_of, lines_of}
 use Rattle.captures.proofs.Blocks.{all_good}
 use Rattle.captures.proofs.Found.{found}
 use Rattle.verdicts.specs.Clean.{count_octets, section_octets, band_letter, cost_letter, fields_sent, frame_sent, clean_capture, no_cost, CleanCapturesComeBack}

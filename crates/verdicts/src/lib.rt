@@ -1,4 +1,6 @@
 // What the report on a capture promises: the PSDU that it prints is the nearest, and a clean frame comes back.
+#![tactic(auto)]
+
 ghost use Rattle.verdicts.specs.Accepted.{AcceptedNearest};
 ghost use Rattle.verdicts.specs.Clean.{CleanCapturesComeBack};
 ghost use Rattle.verdicts.specs.Unread.{NothingReadBehind};

@@ -1,4 +1,5 @@
 // Follows messages of a forecourt through the whole chain and prints each step: spread, sent, damaged on the way, received.
+#![tactic(auto)]
 
 mod careless;
 mod passage;

@@ -1,4 +1,6 @@
 // How many wrecked groups of chips a frame can have and still come back as it was sent, whatever its line code.
+#![tactic(auto)]
+
 ghost use Rattle.wrecked.specs.Wrecked.{DamagedUnlikeSent};
 ghost use Rattle.wrecked.specs.Mended.{FewWreckedMended, SentUnharmed, ByEveryCode, ByCode};
 

@@ -1,11 +1,11 @@
-use Rattle.std.proofs.Common.{◌≡◌, ℕ, ◌+◌, ◌<◌, List, length, take, Ok, Err, sym, ap, ◌∙◌, subst, arith}
+use Rattle.std.proofs.Common.{◌≡◌, ℕ, ◌+◌, ◌<◌, List, Ok, Err, sym, ap, ◌∙◌, subst, arith}
 use Rattle.std.proofs.lemmas.Result.{err_from_is_err_and}
 use Rattle.linecode.specs.Codes.{Code}
 use Rattle.codebits.specs.Message.{blocks}
 use Rattle.frames.specs.Sent.{block_chips}
 use Rattle.header.specs.declared.model.Header.{Header}
 use Rattle.trellis.proofs.Frames.{blocks_run}
-use Rattle.receiver.specs.Receiver.{Open, frame_of, begun, octets, block_step}
+use Rattle.receiver.specs.Receiver.{Open, begun, octets, block_step}
 use Rattle.receiver.specs.Runs.{State, within}
 use Rattle.captures.specs.Decoding.{heard_answer, state_of, Heard}
 use Rattle.captures.proofs.Blocks.{all_good}

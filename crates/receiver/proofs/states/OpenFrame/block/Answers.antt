@@ -1,11 +1,10 @@
-use Rattle.std.proofs.Common.{◌≡◌, ℕ, ◌+◌, List, map, length, Ok, Err, Result, sym, ap, ◌∙◌}
+use Rattle.std.proofs.Common.{◌≡◌, ◌+◌, map, Ok, Err, sym, ap, ◌∙◌}
 use Rattle.std.specs.List.{range_with_len}
 use Rattle.std.proofs.lemmas.Result.{err_from_is_err_and}
 use Rattle.costs.specs.declared.Observation.{Observation}
 use Rattle.reading.specs.Reading.{block_seen, read_answer}
 use Rattle.trellis.specs.Block.{costs_after, words_after}
-use Rattle.receiver.specs.Judging.{room_judged}
-use Rattle.receiver.specs.Receiver.{Blocked, Open, frame_of, octets, position, shown, block_by, block_step}
+use Rattle.receiver.specs.Receiver.{Blocked, Open, frame_of, octets, position, shown}
 use Rattle.receiver.proofs.Steps.{accepted_step, refused_step}
 use Rattle.receiver.proofs.states.OpenFrame.block.Goals as goal
 
