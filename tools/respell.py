@@ -29,14 +29,18 @@ ALIKE = {
     'bit-of': 'bit_of_lem',
     'doubt-of': 'doubt_of_lem',
     'header-chips': 'chips_of_header',
+    'last-doubt': 'next_last_doubt',
     'least-distance': 'least_distance_lem',
     'message-length': 'length_of_message',
     'read-after': 'read_after_lem',
     'whole-answer': 'whole_answer_lem',
     'whole-chips': 'whole_chips_lem',
 }
-# in one crate alone: a name that the kit's script has respelled already
-IN_CRATE = {'reading': {'read_answer': 'read_answer_lem'}}
+# in these crates alone: a name that the kit's script has respelled already
+IN_CRATE = {
+    'frames': {'last_bit': 'next_last_bit'},
+    'reading': {'last_bit': 'next_last_bit', 'read_answer': 'read_answer_lem'},
+}
 
 
 def own_crates():

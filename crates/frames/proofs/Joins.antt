@@ -105,6 +105,6 @@ blocks_join f l b front block long =
           ap (decoded_doubt d false doubts) (moved_at b j h)
           ∙ (doubt_from d false doubts (encoded_doubt k first block) (176 * b) (moved_in j) (λ n le. doubted_after k l b front block long n)
           ∙ ap (λ a. decoded_doubt d a (encoded_doubt k first block) (moved_in j)) (previous_same false doubts (encoded_doubt k 0 front) (176 * b) (doubted_front k l b front block long)));
-      last_bit = ap (previous f.last bits) end ∙ encoded_after k l b front block long 175;
-      last_doubt = ap (previous false doubts) end ∙ doubted_after k l b front block long 175;
+      next_last_bit = ap (previous f.last bits) end ∙ encoded_after k l b front block long 175;
+      next_last_doubt = ap (previous false doubts) end ∙ doubted_after k l b front block long 175;
     }

@@ -37,8 +37,8 @@ pub record Joins (f : Frame) (b : ℕ) (front block : List ℕ) : Type 0 where
   pub next_doubtful : (j : ℕ) → j < block_code_bits →
       doubtful f (front ++ block) (block_code_bits * b + j) ≡ block_doubtful f.code f.differential (last_doubt f b front) (b * block_groups f.code) block j
   -- and the last encoded bit is the block's
-  pub last_bit : last_bit f (b + 1) (front ++ block) ≡ encoded_bit f.code (b * block_groups f.code) block 175
-  pub last_doubt : last_doubt f (b + 1) (front ++ block) ≡ encoded_doubt f.code (b * block_groups f.code) block 175
+  pub next_last_bit : last_bit f (b + 1) (front ++ block) ≡ encoded_bit f.code (b * block_groups f.code) block 175
+  pub next_last_doubt : last_doubt f (b + 1) (front ++ block) ≡ encoded_doubt f.code (b * block_groups f.code) block 175
 
 abbrev pub BlocksJoin : Type 0
 BlocksJoin = (f : Frame) → Lawful f.code → (b : ℕ) (front block : List ℕ) → Blocks f b front → Joins f b front block

@@ -24,7 +24,7 @@ frame_reads = record {
             ∙ (ap (λ x. observation (block_observed k d (last_bit f b front) first block j) (block_doubtful k d x first block j)) (doubt_of_lem (last_bit f b front) (last_doubt f b front))
             ∙ (ap (λ x. observation x (block_doubtful k d (last_doubt f b front) first block j)) (sym (joins.next_observed j h))
             ∙ ap (observation (observed f (front ++ block) (176 * b + j))) (sym (joins.next_doubtful j h))));
-        last = ap (λ x. observation x (encoded_doubt k first block 175)) (sym joins.last_bit) ∙ ap (observation (last_bit f (b + 1) (front ++ block))) (sym joins.last_doubt);
+        last = ap (λ x. observation x (encoded_doubt k first block 175)) (sym joins.next_last_bit) ∙ ap (observation (last_bit f (b + 1) (front ++ block))) (sym joins.next_last_doubt);
         earlier = λ j h. ap (λ x. observation x (doubtful f (front ++ block) j)) (joins.earlier j h).0 ∙ ap (observation (observed f front j)) (joins.earlier j h).1;
       };
 }
