@@ -4,8 +4,8 @@
     python3 tools/plant.py [CRATE..]            try the bugs of all crates, or of these, and write docs/planted-bugs.md
     python3 tools/plant.py --table              write the table once more, from what was found
 
-It needs target/ as 'rt check' leaves it, so that only what a bug changes is proved again. It works on copies, two at a time, and is no
-part of the gate. The bugs are made from the sources by the rules below, a few in each function, always the same ones; tools/bugs.txt adds
+It works on copies, two at a time, and is no part of the gate. A copy begins with what 'rt check' has kept in out/, so that only what
+a bug changes is proved again. The bugs are made from the sources by the rules below, a few in each function, always the same ones; tools/bugs.txt adds
 those that no rule makes. For a bug that does not compile the next one of its function is tried.
 """
 import concurrent.futures
@@ -23,7 +23,7 @@ import time
 ROOT = os.path.dirname(os.path.dirname(os.path.abspath(__file__)))
 TABLE = os.path.join(ROOT, 'docs', 'planted-bugs.md')
 BY_HAND = os.path.join(ROOT, 'tools', 'bugs.txt')
-KEPT = os.path.join(ROOT, 'target', 'planted.json')
+KEPT = os.path.join(ROOT, 'out', 'planted.json')
 WORKERS = 2
 # how many bugs of the rules are tried in a function of a library, and of a program
 IN_A_LIBRARY, IN_A_PROGRAM = 2, 1
@@ -260,18 +260,20 @@ class Worker:
 
     def __init__(self, folder):
         self.folder = folder
-        for part in ['crates', 'crates.txt', 'ci', 'target']:
+        for part in ['crates', 'crates.txt', 'ci']:
             subprocess.run(['cp', '-R', os.path.join(ROOT, part), folder], check=True)
 
-    def run(self, *words):
-        done = subprocess.run(words, cwd=self.folder, stdout=subprocess.PIPE, stderr=subprocess.STDOUT, text=True, errors='replace')
+    def run(self, *words, where='.', **how):
+        where = os.path.join(self.folder, where)
+        done = subprocess.run(words, cwd=where, stdin=how.get('stdin', subprocess.DEVNULL), stdout=subprocess.PIPE, stderr=subprocess.STDOUT, text=True, errors='replace')
         return done.returncode, done.stdout
 
     def forget(self, crate):
-        """What an earlier bug in the crate left of its proof."""
-        kept = os.path.join('target', 'inc', crate)
+        """What an earlier bug in the crate left of its proof and of its program."""
+        kept = os.path.join('crates', crate, 'out')
         shutil.rmtree(os.path.join(self.folder, kept), ignore_errors=True)
-        subprocess.run(['cp', '-R', os.path.join(ROOT, kept), os.path.join(self.folder, kept)], check=False)
+        if os.path.isdir(os.path.join(ROOT, kept)):
+            subprocess.run(['cp', '-R', os.path.join(ROOT, kept), os.path.join(self.folder, kept)], check=False)
 
     def plant(self, bug):
         path = os.path.join('crates', bug.crate, bug.file)
@@ -291,34 +293,51 @@ class Worker:
     def verdict(self, bug):
         if is_program(bug.crate):
             return self.by_running(bug.crate)
-        status, said = self.run('rt', 'dev', bug.crate)
+        status, said = self.run('rt', 'check', where=os.path.join('crates', bug.crate))
         return judged(status, said) if status != 0 else ('survived', '')
 
     def by_running(self, program):
         """Builds the program and compares what it writes, also by the script that the gate runs."""
-        status, said = self.run('rt', 'check', program)
-        if re.search('^rt: .*NOT PROVED', said, re.M):
+        folder = os.path.join('crates', program)
+        built = os.path.join(self.folder, folder, 'out', program)
+        if os.path.exists(built):
+            os.remove(built)
+        status, said = self.run('rt', 'run', where=folder)
+        if not os.path.exists(built):
             return judged(status, said)
-        if status == 0:
-            status, said = self.run('sh', 'ci/bench.sh')
-            return ('survived', '') if status == 0 else ('caught', 'by ci/bench.sh: ' + said.strip().split('\n')[0][:120])
-        return 'caught', 'by its output'
+        if self.written(program, built) != self.given(program, 'stdout'):
+            return 'caught', 'by its output'
+        status, said = self.run('sh', 'ci/bench.sh', '.')
+        return ('survived', '') if status == 0 else ('caught', 'by ci/bench.sh: ' + said.strip().split('\n')[0][:120])
+
+    def given(self, program, name):
+        path = os.path.join(self.folder, 'crates', program, name)
+        return open(path, 'rb').read() if os.path.exists(path) else b''
+
+    def written(self, program, built):
+        """What the program writes, where its data lie and with its arguments and its input."""
+        data = os.path.join(self.folder, 'crates', program, 'data')
+        words = [built, *self.given(program, 'args').decode().split('\n')]
+        where = data if os.path.isdir(data) else self.folder
+        try:
+            return subprocess.run([w for w in words if w], cwd=where, input=self.given(program, 'stdin'), stdout=subprocess.PIPE, stderr=subprocess.DEVNULL, timeout=120).stdout
+        except subprocess.TimeoutExpired:
+            return b'no end'
 
 
 def judged(status, said):
     if 'logic=not-proved' not in said:
         first = re.search(r'^.*error.*$', said, re.M)
         return 'no compile', first.group()[:160] if first else f'status {status}'
-    values = re.search(r'^note: .* fails, .*? where (.*)$', said, re.M)
-    if values:
-        at = [f'{name} = {value.split(".")[-1]}' for name, value in re.findall(r'`c \.args \.(\w+)` = `([^`()]*)`', values.group(1))]
-        if at:
-            return 'refused', 'at ' + ', '.join(at[:3])
+    open_goal = re.search(r'^note: (src/\S+?):\d+: .*?\(`([^`]*)`\)', said, re.M)
+    if open_goal:
+        values = re.search(r'fails at (.*)$', said, re.M)
+        at = [f'{name} = {value}' for name, value in re.findall(r'`c\.args\.(\w+)` = `([^`()]*)`', values.group(1))] if values else []
+        return 'refused', f'`{open_goal.group(2)}` of {open_goal.group(1)}' + (', at ' + ', '.join(at[:3]) if at else '')
     first = re.search(r'((?:src|proofs|specs)/[^\s:]+(?::\d+)?)\S*: error(.*)$', said, re.M)
     if first:
         return 'refused', first.group(1) + first.group(2)[:90]
-    first = re.search(r'^note: `(\S+)` of (?:proofs/)?(\S+)/Answers.antt', said, re.M)
-    return 'refused', f'`{first.group(1)}` of {first.group(2)} is open' if first else ''
+    return 'refused', ''
 
 
 class Trial:
@@ -331,6 +350,7 @@ class Trial:
         result = worker.plant(bug)
         self.results[bug.key()] = result
         print(f'{bug.crate}/{bug.file}:{bug.line} {bug.kind}: {bug.old.strip()} => {bug.new.strip()}: {" ".join(map(str, result))}', flush=True)
+        os.makedirs(os.path.dirname(KEPT), exist_ok=True)
         with open(KEPT + '.new', 'w') as kept:
             json.dump(dict(self.results), kept)
         os.replace(KEPT + '.new', KEPT)
