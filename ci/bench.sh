@@ -119,6 +119,8 @@ refuse "915 3 p deadbeef rate x 1" "places, rate and starting number are decimal
 
 # A refused capture is an answer; an output that takes nothing, or a capture that is not there, is an error.
 printf '\003' | $bench >/dev/null || tell "bench: a refused capture has to end with status 0"
-$bench </dev/null >/dev/full 2>/dev/null && tell "bench: an output that takes nothing has to end with status 1"
-$replay no-such.capture >/dev/null 2>&1 && tell "replay: a capture that is not there has to end with status 1"
+$bench </dev/null >/dev/full 2>/dev/null
+[ $? = 1 ] || tell "bench: an output that takes nothing has to end with status 1"
+$replay no-such.capture >/dev/null 2>&1
+[ $? = 1 ] || tell "replay: a capture that is not there has to end with status 1"
 exit $wrong

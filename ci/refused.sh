@@ -18,7 +18,7 @@ for client in "$root"/ci/refused/*.txt; do
     mkdir -p "$copy/crates/$name/src" && cp "$client" "$copy/crates/$name/src/lib.rt" || exit 2
     echo "$name: $libraries" >>"$copy/crates.txt"
     expect=$(sed -n '1s|^// expect: ||p' "$client")
-    (cd "$copy/crates/$name" && timeout 60 rt check) >"$log" 2>&1
+    (cd "$copy/crates/$name" && timeout 300 rt check) >"$log" 2>&1
     status=$?
     if [ "$status" -ne 1 ] || [ -z "$expect" ] || ! grep -m 1 ': error' "$log" | grep -qF -- "$expect"; then
         echo "not refused as it must be (status $status, wanted: $expect): $name"

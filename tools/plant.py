@@ -404,7 +404,7 @@ HEAD = """# Planted bugs
 
 - **refused**: the prover refuses the crate; where it found values at which a fact fails, they stand behind it, else the place of the first fact that is left open.
 - **caught**: still proved, since no contract can say what a program reads and prints; the comparison of a program's output, or `ci/bench.sh`, finds it.
-- **same behaviour**: still proved, and rightly: the planted code does the same. [Decisions](DECISIONS.md#planted-bugs-that-change-nothing) says why.
+- **same behaviour**: still proved, and rightly: the planted code does the same.
 
 {total} bugs in {crates} crates: {counts}.
 """
