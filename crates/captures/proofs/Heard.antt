@@ -7,10 +7,10 @@ use Rattle.std.proofs.lemmas.List.{take_at, drop-drop}
 use Rattle.faults.specs.declared.Fault.{Fault}
 use Rattle.faults.specs.declared.FaultKind.TheVariants.{Section}
 use Rattle.faults.specs.declared.Layer.TheVariants.{Frame as FrameLayer}
-use Rattle.linecode.specs.Chips.{judged}
+use Rattle.linecode.specs.Chips.{judged, part}
 use Rattle.linecode.specs.Codes.{Code, Lawful}
 use Rattle.codebits.specs.Message.{blocks, message_length, octets_of}
-use Rattle.frames.specs.Sent.{block_chips, part}
+use Rattle.frames.specs.Sent.{block_chips}
 use Rattle.costs.specs.Kind.{Kind}
 use Rattle.costs.specs.declared.Observation.{Observation}
 use Rattle.header.specs.declared.model.Header.{Header}

@@ -5,7 +5,8 @@ use Rattle.std.specs.List.{range_with_len}
 use Rattle.faults.specs.declared.Fault.{Fault}
 use Rattle.linecode.specs.Codes.{Code}
 use Rattle.codebits.specs.Message.{blocks}
-use Rattle.frames.specs.Sent.{Frame, block_chips, part}
+use Rattle.linecode.specs.Chips.{part}
+use Rattle.frames.specs.Sent.{Frame, block_chips}
 use Rattle.costs.specs.Kind.{Kind}
 use Rattle.costs.specs.declared.Observation.{Observation}
 use Rattle.header.specs.declared.model.Header.{Header}

@@ -1,6 +1,6 @@
 -- The message of a PSDU: its octets' bits, each octet from its least bit on, then six zeros and pad zeros up to whole blocks.
 -- Assumes nothing.
-use Rattle.std.specs.Prelude.{◌≡◌, ℕ, ◌+◌, ◌-◌, ◌*◌, ◌/◌, ◌%◌, ◌<◌, Bool, false, List, [], ◌∷◌, ◌++◌, map, length, replicate, slice_index, slice_index_or}
+use Rattle.std.specs.Prelude.{◌≡◌, ℕ, ◌+◌, ◌-◌, ◌*◌, ◌/◌, ◌%◌, ◌<◌, Bool, false, List, [], ◌∷◌, ◌++◌, map, length, replicate, slice_index, slice_index_or, nat_le, ◌&&◌}
 use Rattle.std.specs.List.{range_with_len}
 use Rattle.codebits.specs.Bits.{bit_at, number_at}
 
@@ -25,6 +25,10 @@ message_length L = block_bits * blocks L
 
 abbrev pub pad_bits : ℕ → ℕ
 pad_bits L = message_length L - (8 * L + tail_bits)
+
+-- whether a PSDU can have L octets
+abbrev pub is_length : ℕ → Bool
+is_length L = nat_le 4 L && nat_le L 2047
 
 -- L octets
 abbrev pub IsPsdu : ℕ → List ℕ → Type 0

@@ -2,16 +2,16 @@
 #![tactic(auto)]
 
 ghost use Rattle.std.specs.Prelude.{◌≡◌, Some};
-ghost use Rattle.faults.specs.Refusals.{numbered, sentence, named, described};
+ghost use Rattle.faults.specs.Refusals.{numbered, sentence, named, fault, described};
 
 use std::error::Error;
 use std::fmt;
 
-// The refusals, in the order of their numbers from 1, which is also the order in which a call checks.
+// The refusals, numbered from 1 in the order in which a call checks.
 #[derive(Clone, Copy, PartialEq, Eq, Debug)]
 pub enum FaultKind {
     // The costs or the survivor words are too few.
-    ShortMemory,
+    ShortMemory = 1,
     // A block comes to a full frame.
     FullFrame,
     // A close comes before the last block.
@@ -66,7 +66,7 @@ impl FaultKind {
     pub fn number(self) -> u8
         ensures { result ≡ numbered self }
     {
-        self as u8 + 1
+        self as u8
     }
 
     // What is wrong, in words.
@@ -95,6 +95,17 @@ impl FaultKind {
 }
 
 impl Layer {
+    // A refusal that this layer found.
+    pub fn refusal(self, kind: FaultKind, place: usize) -> Fault
+        ensures answer { result ≡ fault kind place self }
+    {
+        Fault {
+            kind,
+            place,
+            layer: self,
+        }
+    }
+
     pub fn name(self) -> &'static str
         ensures { result.now ≡ named self }
     {

@@ -3,7 +3,8 @@
 use Rattle.std.proofs.Common.{◌≡◌, ℕ, ◌+◌, ◌-◌, ◌*◌, ◌^◌, ◌<◌, ◌≤◌, Bool, ◌++◌, sym, ap, ◌∙◌, add-zero, mul_assoc, one-mul, zero-add, mul-one, arith}
 use Rattle.linecode.specs.Codes.{Code, Lawful}
 use Rattle.codebits.specs.Message.{blocks}
-use Rattle.frames.specs.Sent.{psdu_bit, group_value, spread_groups, block_groups, groups, part, group_chips, SentCut}
+use Rattle.linecode.specs.Chips.{part}
+use Rattle.frames.specs.Sent.{psdu_bit, group_value, spread_groups, block_groups, groups, group_chips, SentCut}
 use Rattle.frames.proofs.Widths.{groups_few}
 use Rattle.frames.proofs.Parts.{part_between, part_ends, groups_more, groups_split, groups_length}
 

@@ -6,7 +6,8 @@ use Rattle.std.proofs.lemmas.List.{take-append-le, take_at, drop_at, drop-append
 use Rattle.std.proofs.lemmas.Bool.{cases_lt}
 use Rattle.linecode.specs.Codes.{Code, Lawful}
 use Rattle.codebits.proofs.Numbers.{number_below}
-use Rattle.frames.specs.Sent.{group_value, spread_groups, part}
+use Rattle.linecode.specs.Chips.{part}
+use Rattle.frames.specs.Sent.{group_value, spread_groups}
 
 -- part j of m parts of n chips ends within them
 pub part_ends : (m n j : ℕ) → j < m → j * n + n ≤ m * n

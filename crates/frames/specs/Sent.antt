@@ -1,5 +1,6 @@
 -- What is sent for a PSDU: its code bits interleaved, coded differentially where that is set, and spread group by group.
 -- Assumes nothing.
+use Rattle.linecode.specs.Chips.{part}
 use Rattle.std.specs.Prelude.{◌≡◌, ℕ, zero, suc, ◌+◌, ◌*◌, ◌/◌, ◌<◌, ◌≤◌, Bool, List, [], ◌++◌, length, take, drop}
 use Rattle.linecode.specs.Codes.{Code, Lawful}
 use Rattle.codebits.specs.Bits.{number_at}
@@ -47,10 +48,6 @@ frame_chips f = groups f * f.code.chips
 -- the chips that are sent for a PSDU
 abbrev pub sent_chips : Frame → List ℕ → List ℕ
 sent_chips f q = spread_groups f.code (psdu_bit f q) 0 (groups f)
-
--- part j of chips that are cut into parts of n chips
-abbrev pub part : ℕ → List ℕ → ℕ → List ℕ
-part n chips j = take n (drop (j * n) chips)
 
 abbrev pub group_chips : Code → List ℕ → ℕ → List ℕ
 group_chips k = part k.chips

@@ -6,29 +6,21 @@ ghost use Rattle.frames.specs.Heard.{UnwreckedHeard, SentHeard};
 ghost use Rattle.frames.specs.Joined.{BlocksJoin};
 
 // The chips of a PSDU are its groups' words one after the other, and its blocks one after the other.
-pub fn sent_chips_are_cut() -> u8
+pub fn sent_chips_are_cut()
     ensures { SentCut }
-{
-    0
-}
+{}
 
 // A group with few damaged chips is read as it was sent, for sure.
-pub fn unwrecked_group_is_heard() -> u8
+pub fn unwrecked_group_is_heard()
     ensures { UnwreckedHeard }
-{
-    0
-}
+{}
 
 // The chips of a PSDU are read as its code bits, none of them doubtful.
-pub fn sent_chips_are_heard() -> u8
+pub fn sent_chips_are_heard()
     ensures { SentHeard }
-{
-    0
-}
+{}
 
 // What is read from a frame's chips is read from its blocks in turn.
-pub fn blocks_join() -> u8
+pub fn blocks_join()
     ensures { BlocksJoin }
-{
-    0
-}
+{}

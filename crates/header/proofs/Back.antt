@@ -8,7 +8,7 @@ use Rattle.linecode.specs.Chips.{judged}
 use Rattle.linecode.specs.Judging.{judged_good, every_leading}
 use Rattle.linecode.proofs.Answers.{accepted}
 use Rattle.codebits.specs.Bits.{◌⊕◌, previous}
-use Rattle.codebits.specs.Message.{message_bit}
+use Rattle.codebits.specs.Message.{message_bit, is_length}
 use Rattle.codebits.proofs.Coding.{decoding_undoes}
 use Rattle.codebits.proofs.Determines.{message_at_octet}
 use Rattle.codebits.proofs.Numbers.{number_mod}
@@ -22,7 +22,6 @@ use Rattle.bands.specs.Modes.{header_code}
 use Rattle.header.specs.Phr.{dsss_sfd, has_mode, read_fields, read_phr, phr, phr_octets}
 use Rattle.header.specs.Headers.{preamble_octets, header_bits, header_length, header_octets, octet_stream, octet_chips, last_encoded, header_chips}
 use Rattle.header.specs.Reading.{decoded, encoded_before, heard_octet, with_last, unless_bad, read_octets}
-use Rattle.header.specs.Writing.{is_length}
 use Rattle.header.specs.Laws.{ReadAs, Unwrecked, HeadersReadBack}
 use Rattle.header.proofs.Bands.{one_bit, some_preamble, few_preamble, octet_at, octets_long, header_lawful}
 use Rattle.header.proofs.Phrs.{phr_back, phr_small}

@@ -10,7 +10,7 @@ use Rattle.bands.specs.declared.band.RateMode.{RateMode}
 use Rattle.bands.specs.declared.band.RateMode.TheVariants.{Mode0, Mode1, Mode2, Mode3}
 use Rattle.bands.specs.Numbers.{mode_number}
 use Rattle.header.specs.Phr.{has_mode, sum_from, low_parity, high_parity, mode_numbered, mode_of, length_of, judged_fields, read_phr, phr_body, phr}
-use Rattle.header.specs.Writing.{is_length}
+use Rattle.codebits.specs.Message.{is_length}
 
 few_modes : (m : RateMode) → mode_number m ≤ 3
 few_modes Mode0 = lit≤ tt

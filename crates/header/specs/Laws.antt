@@ -11,7 +11,7 @@ use Rattle.bands.specs.Modes.{header_code}
 use Rattle.header.specs.Phr.{has_mode}
 use Rattle.header.specs.Headers.{preamble_octets, header_bits, header_length, header_octets, octet_stream, header_chips, header_last}
 use Rattle.header.specs.Reading.{read_answer}
-use Rattle.header.specs.Writing.{is_length}
+use Rattle.codebits.specs.Message.{is_length}
 
 -- the chips are read as the header of a mode and a length
 abbrev pub ReadAs : Band → RateMode → ℕ → List ℕ → Type 0

@@ -3,15 +3,12 @@
 use Rattle.std.specs.Prelude.{ℕ, Bool, cond, ◌&&◌, List, length, Ok, Result, ◌==◌, nat_le}
 use Rattle.faults.specs.declared.Fault.{Fault}
 use Rattle.faults.specs.declared.FaultKind.TheVariants.{ChipCount, FrameLength, RateMode as UnknownMode}
+use Rattle.codebits.specs.Message.{is_length}
 use Rattle.bands.specs.declared.band.Band.{Band}
 use Rattle.bands.specs.declared.band.RateMode.{RateMode}
 use Rattle.bands.specs.Numbers.{mode_number}
 use Rattle.header.specs.Phr.{has_mode, refuse}
 use Rattle.header.specs.Headers.{header_length, header_chips, header_last}
-
--- a length that a header can have
-abbrev pub is_length : ℕ → Bool
-is_length l = nat_le 4 l && nat_le l 2047
 
 -- the last encoded bit, or the first fault
 abbrev pub write_answer : Band → RateMode → ℕ → ℕ → Result Bool Fault

@@ -1,6 +1,6 @@
 -- Chips: how a slice of them is judged, and how a text writes them.
 -- Assumes nothing.
-use Rattle.std.specs.Prelude.{ℕ, ◌%◌, Bool, cond, not, List, map, length, Ok, Err, codes, filter, Result, ◌==◌, nat_lt}
+use Rattle.std.specs.Prelude.{ℕ, ◌*◌, ◌%◌, Bool, cond, not, List, map, length, take, drop, Ok, Err, codes, filter, Result, ◌==◌, nat_lt}
 use Prim.Native.String.{String}
 use Rattle.std.specs.List.{prefix_len}
 use Rattle.faults.specs.declared.Fault.{Fault}
@@ -23,6 +23,10 @@ judged l n xs =
 abbrev pub unless_refused : {X : Type 0} → Result (Unit {0}) Fault → X → Result X Fault
 unless_refused (Ok u) x = Ok x
 unless_refused (Err e) x = Err e
+
+-- part j of what is cut into parts of n
+abbrev pub part : ℕ → List ℕ → ℕ → List ℕ
+part n chips j = take n (drop (j * n) chips)
 
 -- the chip that a digit stands for: 48 and 49 are the codes of 0 and 1
 abbrev pub chip_of : ℕ → ℕ

@@ -30,8 +30,6 @@ pub trait LineCode {
 }
 
 // The least distance at a position is the smallest number of chips in which two of its words differ.
-pub fn least_distance_is_least() -> u8
+pub fn least_distance_is_least()
     ensures { LeastDistance }
-{
-    0
-}
+{}

@@ -10,44 +10,32 @@ ghost use Rattle.nearest.specs.Path.{NearestByLaws, TracesNearest, TracesNearest
 use costs::CostKind;
 
 // What the survivors trace back from state zero is the nearest message: that rests on the laws of the costs alone.
-pub fn nearest_by_the_laws<O, C>() -> u8
+pub fn nearest_by_the_laws<O, C>()
     ensures { NearestByLaws O C }
-{
-    0
-}
+{}
 
 // In every kind of cost of the receiver: what is traced is the nearest message, and its octets are the nearest PSDU.
-pub fn nearest_path<K: CostKind>() -> u8
+pub fn nearest_path<K: CostKind>()
     ensures message { TracesNearest most_charges K.CostKind.kind }
     ensures psdu { TracesNearestPsdu K.CostKind.kind }
-{
-    0
-}
+{}
 
 // No two PSDUs are the nearest, so that being nearest names the PSDU and its cost.
-pub fn the_nearest_is_one<O, C>() -> u8
+pub fn the_nearest_is_one<O, C>()
     ensures { NearestIsOne O C }
-{
-    0
-}
+{}
 
 // The costs of the states and their survivors go by the code bits that have come, not by later ones.
-pub fn costs_go_by_what_came<K: CostKind>() -> u8
+pub fn costs_go_by_what_came<K: CostKind>()
     ensures { ByWhatCame K.CostKind.kind }
-{
-    0
-}
+{}
 
 // Two messages that differ, and that end in six zeros, have code bits that differ in ten places or more.
-pub fn distance_ten() -> u8
+pub fn distance_ten()
     ensures { DistanceTen }
-{
-    0
-}
+{}
 
 // Every message of as many bits as a PSDU has is the message of a PSDU.
-pub fn messages_are_psdus() -> u8
+pub fn messages_are_psdus()
     ensures { MessagesArePsdus }
-{
-    0
-}
+{}

@@ -4,7 +4,8 @@ use Rattle.std.proofs.Common.{ℕ, ◌≤◌, length, is_some, Ok, sym, ap, ◌�
 use Rattle.bands.specs.Lines.{line_code, line_lawful}
 use Rattle.bands.specs.Modes.{psdu_differential}
 use Rattle.codebits.specs.Message.{IsPsdu, message_length}
-use Rattle.frames.specs.Sent.{Frame, block_chips, sent_chips, part}
+use Rattle.linecode.specs.Chips.{part}
+use Rattle.frames.specs.Sent.{Frame, block_chips, sent_chips}
 use Rattle.costs.specs.Kind.{Kind}
 use Rattle.costs.specs.declared.Observation.{Observation}
 use Rattle.header.specs.Reading.{Fields}

@@ -7,11 +7,11 @@ use Rattle.std.proofs.lemmas.List.{flat_map_more, take_all}
 use Rattle.std.proofs.lemmas.Bool.{le-ltb, lt-leb, cond-false}
 use Rattle.faults.specs.declared.Fault.{Fault}
 use Rattle.faults.specs.declared.Layer.TheVariants.{Frame as FrameLayer}
-use Rattle.linecode.specs.Chips.{judged}
+use Rattle.linecode.specs.Chips.{judged, part}
 use Rattle.linecode.specs.Codes.{Code, Lawful}
 use Rattle.linecode.specs.Judging.{judged_good, every_leading}
 use Rattle.codebits.specs.Message.{IsPsdu, blocks, message_length}
-use Rattle.frames.specs.Sent.{Frame, psdu_bit, spread_groups, block_groups, block_chips, sent_chips, part}
+use Rattle.frames.specs.Sent.{Frame, psdu_bit, spread_groups, block_groups, block_chips, sent_chips}
 use Rattle.frames.proofs.Cuts.{sent_cut}
 use Rattle.frames.proofs.Parts.{part_ends, groups_binary, groups_length}
 use Rattle.frames.proofs.Widths.{groups_few}

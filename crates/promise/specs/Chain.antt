@@ -6,13 +6,12 @@ use Rattle.bands.specs.Modes.{psdu_line, psdu_differential}
 use Rattle.bands.specs.declared.band.Band.{Band}
 use Rattle.bands.specs.declared.band.RateMode.{RateMode}
 use Rattle.bands.specs.declared.line.BandLine.{BandLine}
-use Rattle.codebits.specs.Message.{IsPsdu, blocks, message_length}
+use Rattle.codebits.specs.Message.{IsPsdu, blocks, message_length, is_length}
 use Rattle.costs.specs.Kind.{Kind}
 use Rattle.costs.specs.declared.Observation.{Observation}
 use Rattle.header.specs.Headers.{header_chips, header_last}
 use Rattle.header.specs.Reading.{Fields, read_answer}
 use Rattle.header.specs.View.{view}
-use Rattle.header.specs.Writing.{is_length}
 use Rattle.header.specs.declared.model.Header.{Header}
 use Rattle.sender.specs.Sending.{State, next_chips}
 use Rattle.receiver.specs.Runs.{listening, Calls}

@@ -3,7 +3,8 @@
 use Rattle.std.specs.Prelude.{◌≡◌, ℕ, zero, suc, ◌<◌, ◌≤◌, List, ◌++◌, length, drop, Ok}
 use Rattle.linecode.specs.Codes.{Code, Lawful}
 use Rattle.codebits.specs.Message.{IsPsdu, blocks, message_length}
-use Rattle.frames.specs.Sent.{sent_chips, block_chips, part}
+use Rattle.linecode.specs.Chips.{part}
+use Rattle.frames.specs.Sent.{sent_chips, block_chips}
 use Rattle.costs.specs.Kind.{Kind}
 use Rattle.costs.specs.declared.Observation.{Observation}
 use Rattle.header.specs.declared.model.Header.{Header}

@@ -3,10 +3,9 @@
 use Rattle.std.proofs.Common.{◌≡◌, ℕ, suc, ◌+◌, ◌-◌, ◌*◌, ◌<◌, ◌≤◌, List, length, take, drop, Ok, sym, refl, ap, ◌∙◌, mul-le-mul_right, suc-mul, arith, length-drop, length-take, get_or-drop, get_or-take}
 use Rattle.faults.specs.declared.Layer.TheVariants.{Line, Frame}
 use Rattle.linecode.specs.Codes.{Code, despread_answer}
-use Rattle.linecode.specs.Chips.{judged}
+use Rattle.linecode.specs.Chips.{judged, part}
 use Rattle.linecode.specs.Judging.{judged_good, every_leading}
 use Rattle.linecode.proofs.Answers.{Accepted, accepted, despread_ok}
-use Rattle.frames.specs.Sent.{part}
 use Rattle.frames.specs.Heard.{heard}
 
 pub group_ends : (m n j : ℕ) → j < m → j * n + n ≤ m * n

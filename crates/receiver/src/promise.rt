@@ -4,15 +4,11 @@ ghost use Rattle.receiver.specs.Promise.{AcceptedClosesNearest, RefusalsByTheBoo
 use costs::CostKind;
 
 // Over every list of calls, each accepted close returns the nearest PSDU, judged by the book before it.
-pub fn accepted_closes_are_nearest<K: CostKind>() -> u8
+pub fn accepted_closes_are_nearest<K: CostKind>()
     ensures { AcceptedClosesNearest K.CostKind.kind }
-{
-    0
-}
+{}
 
 // Which calls are accepted and which refused, and with which fault, is told by the book alone.
-pub fn the_book_tells_every_refusal<K: CostKind>() -> u8
+pub fn the_book_tells_every_refusal<K: CostKind>()
     ensures { RefusalsByTheBook K.CostKind.kind }
-{
-    0
-}
+{}

@@ -8,10 +8,10 @@ use Rattle.std.proofs.lemmas.Bool.{cond-true, le-ltb, eq-eqb, cases_lt, cases_Bo
 use Rattle.std.proofs.lemmas.Nat.{mul-le}
 use Rattle.frames.proofs.Widths.{few_groups}
 use Rattle.linecode.specs.Codes.{Code, Lawful}
-use Rattle.codebits.specs.Message.{blocks}
+use Rattle.codebits.specs.Message.{blocks, is_length}
 use Rattle.frames.specs.Sent.{Frame, spread_groups, block_groups, block_chips, frame_chips, sent_chips, psdu_bit}
 use Rattle.frames.proofs.Parts.{part_ends, groups_none, groups_split, groups_length}
-use Rattle.sender.specs.Sending.{State, sendable, checked, blocks_to_send, sent_stream, frame_by, pending, answer, chips_after, advanced, state_after, whole_answer, whole_chips}
+use Rattle.sender.specs.Sending.{State, checked, blocks_to_send, sent_stream, frame_by, pending, answer, chips_after, advanced, state_after, whole_answer, whole_chips}
 use Rattle.faults.specs.declared.Fault.{Fault}
 use Rattle.faults.specs.declared.FaultKind.TheVariants.{PsduLength}
 use Rattle.faults.specs.declared.Layer.TheVariants.{Frame as FrameLayer}
@@ -115,7 +115,7 @@ module _ (k : Code) (l : Lawful k) (s₀ s : State) (from end : ℕ) (chips slic
       }
 
   -- once none is left the buffer holds the whole frame, and it is left as it is
-  pub filled_all : (slice' : List ℕ) → Ok None ≡ answer k s (length slice) → sendable (length s₀.psdu) ≡ true → slice' ≡ chips_after k s slice →
+  pub filled_all : (slice' : List ℕ) → Ok None ≡ answer k s (length slice) → is_length (length s₀.psdu) ≡ true → slice' ≡ chips_after k s slice →
       put_mid from (end - from) chips slice' ≡ sent_chips (frame_by k s₀) s₀.psdu
   unfolding psdu_bit
   filled_all slice' none can is_slice' =
@@ -132,25 +132,25 @@ module _ (k : Code) (l : Lawful k) (s₀ s : State) (from end : ℕ) (chips slic
       ∙ (sym (take_all from chips whole) ∙ (f.front ∙ ap (λ (x : ℕ). spread_groups k (sent_stream s₀) 0 (x * block_groups k)) all))))
 
 -- what the call answers and leaves where it is not refused
-pub checked_ok : (octets : ℕ) (u : Unit {0}) → Ok u ≡ checked octets → sendable octets ≡ true
+pub checked_ok : (octets : ℕ) (u : Unit {0}) → Ok u ≡ checked octets → is_length octets ≡ true
 checked_ok octets u e =
     ⊎_elim (λ t. t)
     (λ no.
-    let refused : checked octets ≡ Err (fault PsduLength octets FrameLayer) = cond-false (sendable octets) _ _ no in
+    let refused : checked octets ≡ Err (fault PsduLength octets FrameLayer) = cond-false (is_length octets) _ _ no in
     let z : ◌≡◌ {A = ℕ} 0 1 = cc in
     absurd (omega arith))
-    (cases_Bool (sendable octets))
+    (cases_Bool (is_length octets))
 
 module _ (k : Code) (s : State) where
   abbrev frame : Frame
   frame = frame_by k s
 
-  whole_room : (room : ℕ) → sendable (length s.psdu) ≡ true → room ≡ blocks_to_send (length s.psdu) * block_chips k → eqb room (frame_chips frame) ≡ true
+  whole_room : (room : ℕ) → is_length (length s.psdu) ≡ true → room ≡ blocks_to_send (length s.psdu) * block_chips k → eqb room (frame_chips frame) ≡ true
   whole_room room can e =
       eq-eqb room (frame_chips frame) (e ∙ (ap (λ (x : ℕ). x * block_chips k) (all_blocks (length s.psdu) can) ∙ sym (mul_assoc (blocks (length s.psdu)) (block_groups k) k.chips)))
 
-  pub whole_answer_lem : (room : ℕ) → sendable (length s.psdu) ≡ true → room ≡ blocks_to_send (length s.psdu) * block_chips k → whole_answer frame room ≡ Ok (blocks (length s.psdu))
-  whole_answer_lem room can e = cond-true (sendable (length s.psdu)) _ _ can ∙ cond-true _ _ _ (whole_room room can e)
+  pub whole_answer_lem : (room : ℕ) → is_length (length s.psdu) ≡ true → room ≡ blocks_to_send (length s.psdu) * block_chips k → whole_answer frame room ≡ Ok (blocks (length s.psdu))
+  whole_answer_lem room can e = cond-true (is_length (length s.psdu)) _ _ can ∙ cond-true _ _ _ (whole_room room can e)
 
-  pub whole_chips_lem : (chips : List ℕ) → sendable (length s.psdu) ≡ true → length chips ≡ blocks_to_send (length s.psdu) * block_chips k → whole_chips frame s.psdu chips ≡ sent_chips frame s.psdu
+  pub whole_chips_lem : (chips : List ℕ) → is_length (length s.psdu) ≡ true → length chips ≡ blocks_to_send (length s.psdu) * block_chips k → whole_chips frame s.psdu chips ≡ sent_chips frame s.psdu
   whole_chips_lem chips can e = cond-true _ _ _ (and_from _ _ can (whole_room (length chips) can e))

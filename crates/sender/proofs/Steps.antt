@@ -3,23 +3,23 @@
 use Rattle.std.proofs.Common.{◌≡◌, ℕ, ◌<◌, ◌≤◌, true, leb, length, Some, Ok, ◌∙◌, subst, ⊎_elim, arith}
 use Rattle.std.proofs.lemmas.Bool.{lt-ltb, eq-eqb, and_from, and_parts, leb-true, cond-true, cond-false, cases_Bool}
 use Rattle.linecode.specs.Codes.{Code, Lawful}
-use Rattle.codebits.specs.Message.{blocks}
+use Rattle.codebits.specs.Message.{blocks, is_length}
 use Rattle.frames.specs.Sent.{psdu_bit, block_groups, block_chips}
 use Rattle.frames.proofs.Cuts.{sent_cut}
-use Rattle.sender.specs.Sending.{State, sendable, blocks_to_send, frame_by, pending, answer, writes, block_words, next_chips, advanced, state_after}
+use Rattle.sender.specs.Sending.{State, blocks_to_send, frame_by, pending, answer, writes, block_words, next_chips, advanced, state_after}
 
 -- a PSDU with a block to send has the right length
-pub sendable_when : (octets b : ℕ) → b < blocks_to_send octets → sendable octets ≡ true
+pub sendable_when : (octets b : ℕ) → b < blocks_to_send octets → is_length octets ≡ true
 sendable_when octets b h =
-    ⊎_elim (λ t. t) (λ f. let none : b < 0 = subst (λ (n : ℕ). b < n) (cond-false (sendable octets) (blocks octets) 0 f) h in absurd (omega arith))
-    (cases_Bool (sendable octets))
+    ⊎_elim (λ t. t) (λ f. let none : b < 0 = subst (λ (n : ℕ). b < n) (cond-false (is_length octets) (blocks octets) 0 f) h in absurd (omega arith))
+    (cases_Bool (is_length octets))
 
-module _ (octets : ℕ) (can : sendable octets ≡ true) where
+module _ (octets : ℕ) (can : is_length octets ≡ true) where
   pub most : octets ≤ 2047
   most = leb-true octets 2047 (and_parts (leb 4 octets) (leb octets 2047) can).1
 
   pub all_blocks : blocks_to_send octets ≡ blocks octets
-  all_blocks = cond-true (sendable octets) (blocks octets) 0 can
+  all_blocks = cond-true (is_length octets) (blocks octets) 0 can
 
 -- the block's part of the frame's chips is its words
 pub next_is : (k : Code) → Lawful k → (s : State) → s.block < blocks_to_send (length s.psdu) → next_chips k s ≡ block_words k s (block_groups k)

@@ -4,8 +4,10 @@ use Rattle.std.specs.Prelude.{◌≡◌, ℕ, ◌*◌, ◌≤◌, Bool, true, fa
 use Rattle.std.specs.List.{range_with_len, flat_map}
 use Rattle.faults.specs.declared.Fault.{Fault}
 use Rattle.linecode.specs.Codes.{Code, Lawful}
-use Rattle.frames.specs.Sent.{block_chips, sent_chips, part}
-use Rattle.sender.specs.Sending.{State, blocks_to_send, sendable, frame_by, pending, answer, chips_after, state_after}
+use Rattle.linecode.specs.Chips.{part}
+use Rattle.frames.specs.Sent.{block_chips, sent_chips}
+use Rattle.codebits.specs.Message.{is_length}
+use Rattle.sender.specs.Sending.{State, blocks_to_send, frame_by, pending, answer, chips_after, state_after}
 
 -- a call for the next block: its line code, and what its buffer holds
 pub record Call : Type 0 where
@@ -59,7 +61,7 @@ pub record Sends (s : State) (calls : List Call) : Type 0 where
   pub together : (k : Code) → Lawful k → By k calls →
       flat_map (λ w. w.chips) (written s calls) ≡ take (length (written s calls) * block_chips k) (sent_chips (frame_by k s) s.psdu)
   -- and all of them once no block is left
-  pub finished : (k : Code) → Lawful k → By k calls → sendable (length s.psdu) ≡ true → pending (after s calls) ≡ false →
+  pub finished : (k : Code) → Lawful k → By k calls → is_length (length s.psdu) ≡ true → pending (after s calls) ≡ false →
       flat_map (λ w. w.chips) (written s calls) ≡ sent_chips (frame_by k s) s.psdu
 
 abbrev pub RunsSend : Type 0

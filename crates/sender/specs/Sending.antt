@@ -7,20 +7,17 @@ use Rattle.faults.specs.declared.Layer.TheVariants.{Frame as FrameLayer}
 use Rattle.faults.specs.Refusals.{fault}
 use Rattle.linecode.specs.Codes.{Code}
 use Rattle.codebits.specs.Differential.{sent_bit}
-use Rattle.codebits.specs.Message.{block_code_bits, blocks}
-use Rattle.frames.specs.Sent.{Frame, interleaved, spread_groups, block_groups, block_chips, frame_chips, sent_chips, part}
+use Rattle.codebits.specs.Message.{block_code_bits, blocks, is_length}
+use Rattle.linecode.specs.Chips.{part}
+use Rattle.frames.specs.Sent.{Frame, interleaved, spread_groups, block_groups, block_chips, frame_chips, sent_chips}
 use Rattle.sender.specs.Stored.{last_sent}
 
--- a PSDU of so many octets can be sent
-abbrev pub sendable : ℕ → Bool
-sendable octets = nat_le 4 octets && nat_le octets 2047
-
 abbrev pub checked : ℕ → Result (Unit {0}) Fault
-checked octets = cond (sendable octets) (Ok tt) (Err (fault PsduLength octets FrameLayer))
+checked octets = cond (is_length octets) (Ok tt) (Err (fault PsduLength octets FrameLayer))
 
 -- the blocks of a cursor over a PSDU of so many octets: none if it cannot be sent
 abbrev pub blocks_to_send : ℕ → ℕ
-blocks_to_send octets = cond (sendable octets) (blocks octets) 0
+blocks_to_send octets = cond (is_length octets) (blocks octets) 0
 
 -- what a cursor stands for: its PSDU, the coding, the header's last encoded bit and the blocks written
 pub record State : Type 0 where
@@ -76,8 +73,8 @@ state_after k s room = cond (writes k s room) (advanced s) s
 -- Sending a whole PSDU by a frame, with a buffer of so many chips: its answer,
 abbrev pub whole_answer : Frame → ℕ → Result ℕ Fault
 whole_answer f room =
-    cond (sendable f.octets) (cond (room == frame_chips f) (Ok (blocks f.octets)) (Err (fault ChipCount room FrameLayer))) (Err (fault PsduLength f.octets FrameLayer))
+    cond (is_length f.octets) (cond (room == frame_chips f) (Ok (blocks f.octets)) (Err (fault ChipCount room FrameLayer))) (Err (fault PsduLength f.octets FrameLayer))
 
 -- and what is in the buffer afterwards
 abbrev pub whole_chips : Frame → List ℕ → List ℕ → List ℕ
-whole_chips f q chips = cond (sendable f.octets && length chips == frame_chips f) (sent_chips f q) chips
+whole_chips f q chips = cond (is_length f.octets && length chips == frame_chips f) (sent_chips f q) chips

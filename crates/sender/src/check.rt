@@ -1,6 +1,7 @@
 // The check of a PSDU to be sent.
 ghost use Rattle.std.specs.Prelude.{◌≡◌, ◌≤◌, length};
-ghost use Rattle.sender.specs.Sending.{sendable, checked, blocks_to_send};
+ghost use Rattle.codebits.specs.Message.{is_length};
+ghost use Rattle.sender.specs.Sending.{checked, blocks_to_send};
 
 use crate::coding::{MESSAGE_BITS, TAIL_BITS};
 use faults::{Fault, FaultKind, Layer};
@@ -11,7 +12,7 @@ const LEAST_OCTETS: usize = 4;
 const MOST_OCTETS: usize = 2047;
 
 fn can_send(octets: usize) -> bool
-    ensures { result ≡ sendable octets }
+    ensures { result ≡ is_length octets }
 {
     octets >= LEAST_OCTETS && octets <= MOST_OCTETS
 }

@@ -2,8 +2,6 @@
 ghost use Rattle.sender.specs.Runs.{RunsSend};
 
 // Over any list of calls, accepted or refused, the blocks come in order, each once, and their chips together are the frame's.
-pub fn blocks_come_in_order() -> u8
+pub fn blocks_come_in_order()
     ensures { RunsSend }
-{
-    0
-}
+{}

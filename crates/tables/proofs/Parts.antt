@@ -2,8 +2,8 @@
 -- Assumes nothing.
 use Rattle.std.proofs.Common.{◌≡◌, ℕ, zero, suc, ◌+◌, ◌*◌, ◌<◌, ◌≤◌, List, [], ◌∷◌, ◌++◌, length, get_or, take, drop, sym, ap, ◌∙◌, le_of_suc-le-suc, not-suc-le-zero, mul-le-mul_right, suc-mul, arith, length-append}
 use Rattle.std.proofs.lemmas.List.{take-map, drop-map, take-append-le, drop-append-le, drop-drop, take_all, drop_all}
-use Rattle.linecode.specs.Chips.{chip_of, word_of}
-use Rattle.tables.specs.Codes.{row, part}
+use Rattle.linecode.specs.Chips.{chip_of, word_of, part}
+use Rattle.tables.specs.Codes.{row}
 
 -- a word below count lies within so many words
 pub word_within : (v count n : ℕ) → v < count → v * n + n ≤ count * n

@@ -2,11 +2,11 @@
 -- Assumes nothing.
 use Rattle.std.proofs.Common.{◌≡◌, ℕ, ◌-◌, ◌*◌, ◌^◌, ◌<◌, List, [], length, get_or, sym, ap, ◌∙◌, arith}
 use Rattle.std.proofs.lemmas.List.{length-map}
-use Rattle.linecode.specs.Chips.{chip_of, word_of}
+use Rattle.linecode.specs.Chips.{chip_of, word_of, part}
 use Rattle.linecode.specs.Codes.{distance, nearest, value_of}
 use Rattle.linecode.proofs.Hearing.{values}
 use Rattle.linecode.proofs.Nearness.{nearest_same}
-use Rattle.tables.specs.Codes.{words, group_bits, word_chips, code_of, row, part}
+use Rattle.tables.specs.Codes.{words, group_bits, word_chips, code_of, row}
 use Rattle.tables.specs.CodeLaws.{tables_sound}
 use Rattle.tables.specs.Search.{part_distance}
 use Rattle.tables.specs.TableLaws.{Sound, sound, word_length}

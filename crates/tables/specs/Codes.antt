@@ -48,9 +48,6 @@ word_chips Dsss32x4 = 32
 abbrev pub code_of : TableCode → Code
 code_of t = table_code (group_bits t) (word_chips t) (words t)
 
--- words one after the other, and word v of a list that holds words of n digits
+-- words one after the other
 abbrev pub row : List (List ℕ) → List ℕ
 row ws = flat_map (λ w. w) ws
-
-abbrev pub part : ℕ → List ℕ → ℕ → List ℕ
-part n digits v = take n (drop (v * n) digits)

@@ -1,8 +1,7 @@
 // The words of a table: how far chips are from one, which is nearest, and one written out.
 ghost use Rattle.std.specs.Prelude.{◌≡◌, ◌+◌, ◌-◌, ◌*◌, ◌<◌, ◌≤◌, true, length};
-ghost use Rattle.linecode.specs.Chips.{chip_of, word_of};
+ghost use Rattle.linecode.specs.Chips.{chip_of, word_of, part};
 ghost use Rattle.linecode.specs.Codes.{distance, nearest};
-ghost use Rattle.tables.specs.Codes.{part};
 ghost use Rattle.tables.specs.Search.{part_distance};
 
 // The chip that a digit of a word stands for.

@@ -70,8 +70,6 @@ pub fn trace(words: &[u64], octets: usize, psdu: &mut [u8])
 }
 
 // Run block by block, the memory holds the trellis of the whole frame, and what it then traces is the nearest PSDU.
-pub fn blocks_run_the_trellis<K: CostKind>() -> u8
+pub fn blocks_run_the_trellis<K: CostKind>()
     ensures { BlocksRunTheTrellis K.CostKind.kind }
-{
-    0
-}
+{}

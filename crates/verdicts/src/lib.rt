@@ -6,22 +6,16 @@ ghost use Rattle.verdicts.specs.Clean.{CleanCapturesComeBack};
 ghost use Rattle.verdicts.specs.Unread.{NothingReadBehind};
 
 // The PSDU that is printed of an accepted capture is the nearest to what its chips show, and the cost is that PSDU's.
-pub fn accepted_captures_are_nearest() -> u8
+pub fn accepted_captures_are_nearest()
     ensures { AcceptedNearest }
-{
-    0
-}
+{}
 
 // A capture of a frame as it is sent gives the lines of that frame, with a cost of nothing.
-pub fn clean_captures_come_back() -> u8
+pub fn clean_captures_come_back()
     ensures { CleanCapturesComeBack }
-{
-    0
-}
+{}
 
 // Octets behind the longest capture change nothing, so that a program may stop reading there.
-pub fn nothing_is_read_behind() -> u8
+pub fn nothing_is_read_behind()
     ensures { NothingReadBehind }
-{
-    0
-}
+{}

@@ -7,31 +7,24 @@ ghost use Rattle.wrecked.specs.Mended.{FewWreckedMended, SentUnharmed, ByEveryCo
 use linecode::lines::LineCode;
 
 // The damaged chips of a group are those unlike what is sent for a PSDU.
-pub fn damaged_chips_are_unlike_sent() -> u8
+pub fn damaged_chips_are_unlike_sent()
     ensures { ByEveryCode DamagedUnlikeSent }
-{
-    0
-}
+{}
 
 // Wrecked groups that reach at most four code bits are mended, by the count and by the graded cost.
-pub fn few_wrecked_groups_are_mended() -> u8
+pub fn few_wrecked_groups_are_mended()
     ensures { ByEveryCode FewWreckedMended }
-{
-    0
-}
+{}
 
 // The chips that are sent for a PSDU have no wrecked group, are read as its code bits, and return it alone, at no cost.
-pub fn sent_chips_are_unwrecked() -> u8
+pub fn sent_chips_are_unwrecked()
     ensures { ByEveryCode SentUnharmed }
-{
-    0
-}
+{}
 
 // Both hold of the line code at hand, with nothing left to ask of it.
-pub fn line_code_mends_frames<L: LineCode>(line: &L) -> u8
+pub fn line_code_mends_frames<L: LineCode>(line: &L)
     ensures few { ByCode (L.LineCode.code line.now) FewWreckedMended }
     ensures sent { ByCode (L.LineCode.code line.now) SentUnharmed }
 {
     let _ = line;
-    0
 }

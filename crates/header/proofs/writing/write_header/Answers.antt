@@ -4,7 +4,7 @@ use Rattle.linecode.specs.Codes.{Code}
 use Rattle.bands.specs.Modes.{header_code}
 use Rattle.header.specs.Phr.{has_mode}
 use Rattle.header.specs.Headers.{header_length, octet_chips, last_encoded}
-use Rattle.header.specs.Writing.{is_length}
+use Rattle.codebits.specs.Message.{is_length}
 use Rattle.header.proofs.Bands.{laid, laid_out}
 use Rattle.header.proofs.writing.write_header.Goals as goal
 

@@ -1,8 +1,8 @@
 use Rattle.std.proofs.Common.{◌+◌, ◌*◌, ◌^◌, ◌≤◌, length, ap, ◌∙◌, arith}
-use Rattle.linecode.specs.Chips.{word_of}
+use Rattle.linecode.specs.Chips.{word_of, part}
 use Rattle.linecode.proofs.Answers.{spread_ok, spread_word, spread_large, spread_kept}
 use Rattle.linecode.proofs.Hearing.{values}
-use Rattle.tables.specs.Codes.{word_chips, group_bits, code_of, part}
+use Rattle.tables.specs.Codes.{word_chips, group_bits, code_of}
 use Rattle.tables.proofs.Parts.{word_within}
 use Rattle.tables.proofs.Table.{facts, digit_count, word_at}
 use Rattle.tables.proofs.code.TableCodeLineCode.spread.Goals as goal
