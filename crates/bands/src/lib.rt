@@ -2,9 +2,10 @@
 #![tactic(auto)]
 
 mod band;
+pub mod laws;
 mod line;
 mod modes;
 
-pub use band::{Band, RateMode};
+pub use band::{Band, RateMode, UnknownBand, UnknownMode};
 pub use line::BandLine;
 pub use modes::{header_line, is_differential, psdu_line};

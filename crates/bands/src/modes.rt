@@ -11,6 +11,7 @@ use linecode::straight::Straight;
 use tables::TableCode;
 
 // The line code of a PSDU, or nothing where the band lacks the mode.
+// Band and mode are passed apart, here and above: a pair of them could be one that no band has, so that nothing would hold of it.
 pub fn psdu_line(band: Band, mode: RateMode) -> Option<BandLine>
     ensures { held result ≡ psdu_line band mode }
 {

@@ -69,7 +69,7 @@ impl FaultKind {
         self as u8
     }
 
-    // What is wrong, in words.
+    // What is wrong, in words. By a match, as a derived `Display` would print the same and promise nothing of it.
     fn text(self) -> &'static str
         ensures { result.now ≡ sentence self }
     {
@@ -106,6 +106,7 @@ impl Layer {
         }
     }
 
+    // By a match too: a `Display` would be this match with a formatter around it.
     pub fn name(self) -> &'static str
         ensures { result.now ≡ named self }
     {

@@ -25,21 +25,19 @@ from k (s ∷ ss) t (suc i) h =
 pub period_at : (ss : List ℕ) → T (starts ss) → (i : ℕ) → i < length ss → get_or ss i 0 ≡ sequence i
 period_at ss t i h = from 0 ss (t_true _ t) i h ∙ ap sequence (zero-add i)
 
--- a loop that has whitened the first i chips whitens one more
-pub whiten_more : (k i : ℕ) (xs : List ℕ) → i < length xs →
+-- a loop that has whitened the first i chips whitens one more, by element s
+pub whiten_more : (k i s : ℕ) (xs : List ℕ) → i < length xs → s ≡ sequence ((k + i) % 511) →
     take i xs ++ whiten (k + i) (drop i xs)
-    ≡ take (i + 1) (set xs i (bit_xor (get_or xs i 0) (sequence ((k + i) % 511)))) ++ whiten (k + (i + 1)) (drop (i + 1) (set xs i (bit_xor (get_or xs i 0) (sequence ((k + i) % 511)))))
+    ≡ take (i + 1) (set xs i (bit_xor (get_or xs i 0) s)) ++ whiten (k + (i + 1)) (drop (i + 1) (set xs i (bit_xor (get_or xs i 0) s)))
 unfolding whiten
-whiten_more k i xs h =
-    let y = bit_xor (get_or xs i 0) (sequence ((k + i) % 511)) in
+whiten_more k i s xs h is =
+    let y = bit_xor (get_or xs i 0) s in
     ap (λ zs. take i xs ++ whiten (k + i) zs) (drop_more xs i 0 h)
+    ∙ ap (λ u. take i xs ++ bit_xor (get_or xs i 0) u ∷ whiten (k + i + 1) (drop (i + 1) xs)) (sym is)
     ∙ sym (append_assoc (take i xs) (y ∷ []) (whiten (k + i + 1) (drop (i + 1) xs)))
     ∙ ap (λ zs. zs ++ whiten (k + i + 1) (drop (i + 1) xs)) (sym (take_more_set xs i y h))
     ∙ ap (λ zs. take (i + 1) (set xs i y) ++ whiten (k + i + 1) zs) (sym (drop-set-lt (i + 1) xs i y (omega arith)))
     ∙ ap (λ n. take (i + 1) (set xs i y) ++ whiten n (drop (i + 1) (set xs i y))) (add_assoc k i 1)
-
-pub whiten_none : (k : ℕ) (xs : List ℕ) → whiten k xs ≡ take 0 xs ++ whiten (k + 0) (drop 0 xs)
-whiten_none k xs = ap (λ n. whiten n xs) (sym (add-zero k))
 
 pub whiten_all : (k i : ℕ) (xs : List ℕ) → length xs ≤ i → take i xs ++ whiten (k + i) (drop i xs) ≡ xs
 unfolding whiten

@@ -2,9 +2,8 @@
 ghost use Rattle.layers.specs.Whitening.{whitened};
 ghost use Rattle.layers.specs.WhiteningLaws.{whitened_lawful};
 
-use crate::whitening::whiten_chips;
-use faults::{Fault, Layer};
-use linecode::checks::judge;
+use crate::whitening::whiten_group;
+use faults::Fault;
 use linecode::lines::LineCode;
 
 #[derive(Clone, Copy)]
@@ -26,19 +25,18 @@ impl<L: LineCode> LineCode for Whitened<L> {
     }
 
     fn spread(&self, position: u32, value: u32, chips: &mut [u8]) -> Result<(), Fault> {
-        let count = self.line.chips_per_group();
         self.line.spread(position, value, chips)?;
-        whiten_chips(u64::from(position) * count as u64, chips);
+        whiten_group(position, chips);
         Ok(())
     }
 
     fn despread(&self, position: u32, chips: &[u8]) -> Result<(u32, bool), Fault> {
-        let count = self.line.chips_per_group();
-        judge(Layer::Line, count, chips)?;
-        let mut plain = [0; 128];
-        let part = &mut plain[0..count];
-        part.copy_from_slice(chips);
-        whiten_chips(u64::from(position) * count as u64, part);
-        self.line.despread(position, part)
+        self.judge_chips(chips)?;
+        // No heap, so the plain chips take a part of the longest group that there is.
+        let mut longest = [0; 128];
+        let plain = &mut longest[..chips.len()];
+        plain.copy_from_slice(chips);
+        whiten_group(position, plain);
+        self.line.despread(position, plain)
     }
 }

@@ -1,5 +1,5 @@
 // Whitening: chips added modulo 2 to a sequence of period 511.
-ghost use Rattle.std.specs.Prelude.{◌≡◌, ◌+◌, ◌^◌, ◌<◌, T, length};
+ghost use Rattle.std.specs.Prelude.{◌≡◌, ◌*◌, ◌<◌, ◌≤◌, T, length};
 ghost use Rattle.linecode.specs.Chips.{word_of};
 ghost use Rattle.layers.specs.Whitening.{sequence, starts, whiten};
 
@@ -26,12 +26,13 @@ fn sequence_chip(index: usize) -> u8
     period()[index] % 2
 }
 
-// Whitens the chips in place, the first by element `start` of the sequence.
-pub fn whiten_chips(start: u64, chips: &mut [u8])
-    requires { start + length chips.old < 2 ^ 64 }
-    ensures { chips.new ≡ whiten start chips.old }
+// Whitens the chips of a group in place, by the elements of the sequence that its position has.
+pub fn whiten_group(position: u32, chips: &mut [u8])
+    requires { length chips.old ≤ 128 }
+    ensures { chips.new ≡ whiten (position * length chips.old) chips.old }
 {
-    for i in 0..chips.len() {
-        chips[i] ^= sequence_chip(((start + i as u64) % 511) as usize);
+    let start = u64::from(position) * chips.len() as u64;
+    for (i, chip) in chips.iter_mut().enumerate() {
+        *chip ^= sequence_chip(((start + i as u64) % 511) as usize);
     }
 }

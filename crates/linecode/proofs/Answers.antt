@@ -1,14 +1,12 @@
--- What spreading and despreading answer, by the tests that the code makes, and what an accepted slice of chips is.
+-- What despreading answers, by the tests that the code makes, and what an accepted slice of chips is.
 -- Assumes nothing.
-use Rattle.std.proofs.Common.{◌≡◌, ℕ, ◌^◌, ◌<◌, ◌≤◌, Bool, eqb, ltb, List, length, get_or, Ok, Err, sym, refl, ap, ◌∙◌, ⊎_elim, arith}
-use Rattle.std.proofs.lemmas.Bool.{eq-eqb, lt-ltb, le-ltb, cond-true, cond-false, cases_Bool, eqb-true, eqb-false}
+use Rattle.std.proofs.Common.{◌≡◌, ℕ, ◌<◌, Bool, eqb, List, length, get_or, Ok, Err, sym, refl, ap, ◌∙◌, ⊎_elim, arith}
+use Rattle.std.proofs.lemmas.Bool.{cond-true, cond-false, cases_Bool, eqb-true, eqb-false}
 use Rattle.std.specs.List.{prefix_len}
 use Rattle.faults.specs.declared.Layer.{Layer}
 use Rattle.faults.specs.declared.Layer.TheVariants.{Line}
-use Rattle.faults.specs.declared.FaultKind.TheVariants.{GroupValue}
-use Rattle.faults.specs.Refusals.{fault}
 use Rattle.linecode.specs.Chips.{judged, unless_refused, is_chip}
-use Rattle.linecode.specs.Codes.{Code, value_of, despread_answer, spread_answer, spread_chips}
+use Rattle.linecode.specs.Codes.{Code, value_of, despread_answer}
 use Rattle.linecode.specs.Judging.{judged_length, leading_every}
 
 -- a slice that was accepted has the right length, and its chips are 0 or 1
@@ -42,23 +40,5 @@ despread_was k p xs r e =
       | Err f ↦ λ bad no. let z : ◌≡◌ {A = ℕ} 0 1 = cc in absurd (omega arith)
     ] refl e
 
-module _ (k : Code) (p : ℕ) where
-  pub despread_ok : (xs : List ℕ) (u : Unit {0}) (r : ℕ × Bool) → judged Line k.chips xs ≡ Ok u → r ≡ value_of k p xs → Ok r ≡ despread_answer k p xs
-  despread_ok xs u r e v = ap Ok v ∙ sym (ap (λ j. unless_refused j (value_of k p xs)) e)
-
-  pub spread_ok : (v n : ℕ) → n ≡ k.chips → v < 2 ^ k.bits → Ok tt ≡ spread_answer k v n
-  spread_ok v n e h = sym (cond-true (eqb n k.chips) _ _ (eq-eqb n k.chips e) ∙ cond-true (ltb v (2 ^ k.bits)) _ _ (lt-ltb v (2 ^ k.bits) h))
-
-  pub spread_word : (v : ℕ) (xs ys : List ℕ) → length xs ≡ k.chips → v < 2 ^ k.bits → ys ≡ k.word p v → ys ≡ spread_chips k p v xs
-  spread_word v xs ys e h w =
-      w ∙ sym (cond-true (eqb (length xs) k.chips) _ _ (eq-eqb (length xs) k.chips e) ∙ cond-true (ltb v (2 ^ k.bits)) _ _ (lt-ltb v (2 ^ k.bits) h))
-
-  pub spread_large : (v n : ℕ) → n ≡ k.chips → 2 ^ k.bits ≤ v → Err (fault GroupValue v Line) ≡ spread_answer k v n
-  spread_large v n e h = sym (cond-true (eqb n k.chips) _ _ (eq-eqb n k.chips e) ∙ cond-false (ltb v (2 ^ k.bits)) _ _ (le-ltb v (2 ^ k.bits) h))
-
-  pub spread_kept : (v : ℕ) (xs : List ℕ) → 2 ^ k.bits ≤ v → xs ≡ spread_chips k p v xs
-  spread_kept v xs h =
-      sym (⊎_elim
-      (λ t. cond-true (eqb (length xs) k.chips) _ _ t ∙ cond-false (ltb v (2 ^ k.bits)) _ _ (le-ltb v (2 ^ k.bits) h))
-      (λ f. cond-false (eqb (length xs) k.chips) _ _ f)
-      (cases_Bool (eqb (length xs) k.chips)))
+pub despread_ok : (k : Code) (p : ℕ) (xs : List ℕ) (u : Unit {0}) (r : ℕ × Bool) → judged Line k.chips xs ≡ Ok u → r ≡ value_of k p xs → Ok r ≡ despread_answer k p xs
+despread_ok k p xs u r e v = ap Ok v ∙ sym (ap (λ j. unless_refused j (value_of k p xs)) e)

@@ -9,19 +9,11 @@ pub fn judge(layer: Layer, count: usize, chips: &[u8]) -> Result<(), Fault>
     ensures { result ≡ judged layer count chips.now }
 {
     if chips.len() != count {
-        return Err(Fault {
-            kind: FaultKind::ChipCount,
-            place: chips.len(),
-            layer,
-        });
+        return Err(layer.refusal(FaultKind::ChipCount, chips.len()));
     }
     for (i, c) in chips.iter().enumerate() {
         if *c > 1 {
-            return Err(Fault {
-                kind: FaultKind::ChipValue,
-                place: i,
-                layer,
-            });
+            return Err(layer.refusal(FaultKind::ChipValue, i));
         }
     }
     Ok(())

@@ -1,9 +1,12 @@
 // A line code turns groups of bits into chips.
 ghost use Rattle.std.specs.Prelude.{◌≡◌, length};
+ghost use Rattle.faults.specs.declared.Layer.TheVariants.{Line};
+ghost use Rattle.linecode.specs.Chips.{judged};
 ghost use Rattle.linecode.specs.Codes.{Code, Lawful, spread_answer, spread_chips, despread_answer};
 ghost use Rattle.linecode.specs.Promises.{HeardUnlessRefused, LeastDistance};
 
-use faults::Fault;
+use crate::checks::judge;
+use faults::{Fault, FaultKind, Layer};
 
 pub trait LineCode {
     // What the line code means: bits per group, chips per group, and the word for a value at a position.
@@ -18,12 +21,33 @@ pub trait LineCode {
     fn chips_per_group(&self) -> usize
         ensures { result ≡ (code self.now).chips };
 
+    // Chips of one group are judged: their number first, then the first that is neither 0 nor 1.
+    fn judge_chips(&self, chips: &[u8]) -> Result<(), Fault>
+        ensures { result ≡ judged Line (code self.now).chips chips.now }
+    {
+        judge(Layer::Line, self.chips_per_group(), chips)
+    }
+
+    // The room for a word, in chips, is judged first, then the value that is to be spread.
+    fn judge_value(&self, value: u32, room: usize) -> Result<(), Fault>
+        ensures { result ≡ spread_answer (code self.now) value room }
+    {
+        if room != self.chips_per_group() {
+            return Err(Layer::Line.refusal(FaultKind::ChipCount, room));
+        }
+        if value >= 1 << self.bits_per_group() {
+            return Err(Layer::Line.refusal(FaultKind::GroupValue, value as usize));
+        }
+        Ok(())
+    }
+
     // Writes the word for a value at a position; a refusal leaves the slice as it was.
     fn spread(&self, position: u32, value: u32, chips: &mut [u8]) -> Result<(), Fault>
         ensures answer { result ≡ spread_answer (code self.now) value (length chips.old) }
         ensures memory { chips.new ≡ spread_chips (code self.now) position value chips.old };
 
     // The value whose word differs in the fewest chips, the lowest if several do, and whether another ties with it.
+    // By a rule of the project a pair: the flag says nothing of whether there is a value.
     fn despread(&self, position: u32, chips: &[u8]) -> Result<(u32, bool), Fault>
         ensures answer { result ≡ despread_answer (code self.now) position chips.now }
         ensures promise { HeardUnlessRefused (code self.now) position chips.now result };

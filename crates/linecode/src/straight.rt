@@ -1,9 +1,8 @@
 // The straight code: one bit to a group, and the chip is the bit.
 ghost use Rattle.linecode.specs.Straight.{straight, straight_lawful};
 
-use crate::checks::judge;
 use crate::lines::LineCode;
-use faults::{Fault, FaultKind, Layer};
+use faults::Fault;
 
 #[derive(Clone, Copy)]
 pub struct Straight;
@@ -22,26 +21,13 @@ impl LineCode for Straight {
     }
 
     fn spread(&self, position: u32, value: u32, chips: &mut [u8]) -> Result<(), Fault> {
-        if chips.len() != 1 {
-            return Err(Fault {
-                kind: FaultKind::ChipCount,
-                place: chips.len(),
-                layer: Layer::Line,
-            });
-        }
-        if value > 1 {
-            return Err(Fault {
-                kind: FaultKind::GroupValue,
-                place: value as usize,
-                layer: Layer::Line,
-            });
-        }
+        self.judge_value(value, chips.len())?;
         chips[0] = value as u8;
         Ok(())
     }
 
     fn despread(&self, position: u32, chips: &[u8]) -> Result<(u32, bool), Fault> {
-        judge(Layer::Line, 1, chips)?;
+        self.judge_chips(chips)?;
         Ok((u32::from(chips[0]), false))
     }
 }

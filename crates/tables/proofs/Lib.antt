@@ -1,3 +1,5 @@
 pub mod Distances
 pub mod Parts
 pub mod Table
+pub mod Best
+pub mod Searching

@@ -1,22 +1,13 @@
 -- Words that stand one after the other, each as long as the others.
 -- Assumes nothing.
-use Rattle.std.proofs.Common.{◌≡◌, ℕ, zero, suc, ◌+◌, ◌*◌, ◌<◌, ◌≤◌, List, [], ◌∷◌, ◌++◌, length, get_or, take, drop, sym, ap, ◌∙◌, le_of_suc-le-suc, not-suc-le-zero, mul-le-mul_right, suc-mul, arith, length-append}
+use Rattle.std.proofs.Common.{◌≡◌, ℕ, zero, suc, ◌+◌, ◌*◌, ◌<◌, List, [], ◌∷◌, ◌++◌, length, get_or, take, drop, sym, ap, ◌∙◌, le_of_suc-le-suc, not-suc-le-zero, suc-mul, arith}
 use Rattle.std.proofs.lemmas.List.{take-map, drop-map, take-append-le, drop-append-le, drop-drop, take_all, drop_all}
 use Rattle.linecode.specs.Chips.{chip_of, word_of, part}
 use Rattle.tables.specs.Codes.{row}
 
--- a word below count lies within so many words
-pub word_within : (v count n : ℕ) → v < count → v * n + n ≤ count * n
-word_within v count n h = omega (arith, mul-le-mul_right {m = suc v} {n = count} n h, suc-mul v n)
-
 -- every word has n chips
 abbrev pub Sized : ℕ → List (List ℕ) → Type 0
 Sized n ws = (v : ℕ) → v < length ws → length (get_or ws v []) ≡ n
-
-pub row_length : (n : ℕ) (ws : List (List ℕ)) → Sized n ws → length (row ws) ≡ length ws * n
-row_length n [] s = omega arith
-row_length n (w ∷ ws) s =
-    omega (arith, length-append w (row ws), s 0 (omega arith), row_length n ws (λ v h. s (suc v) (omega arith)), suc-mul (length ws) n)
 
 -- past a first word of n chips
 drop_word : (n m : ℕ) (w xs : List ℕ) → length w ≡ n → drop (m + n) (w ++ xs) ≡ drop m xs

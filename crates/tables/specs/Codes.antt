@@ -1,6 +1,6 @@
 -- The line codes of the tables: bits and chips per group, and the words.
 -- Assumes nothing.
-use Rattle.std.specs.Prelude.{ℕ, ◌*◌, List, take, drop}
+use Rattle.std.specs.Prelude.{ℕ, List}
 use Rattle.std.specs.List.{flat_map}
 use Rattle.linecode.specs.Codes.{Code}
 use Rattle.tables.specs.Tables.{table_code}

@@ -3,5 +3,4 @@ pub mod TableLaws
 pub mod Words
 pub mod Codes
 pub mod CodeLaws
-pub mod Search
 pub mod Facts

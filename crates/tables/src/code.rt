@@ -1,12 +1,8 @@
 // The line codes that are given by tables.
-ghost use Rattle.std.specs.Prelude.{◌≡◌, ◌^◌};
-ghost use Rattle.tables.specs.Codes.{code_of, group_bits};
+ghost use Rattle.tables.specs.Codes.{code_of};
 ghost use Rattle.tables.specs.CodeLaws.{code_lawful};
 
-use crate::rows::digits;
-use crate::search::{nearest_word, write_word};
-use faults::{Fault, FaultKind, Layer};
-use linecode::checks::judge;
+use faults::Fault;
 use linecode::lines::LineCode;
 
 // An (N,g) code spreads g bits over N chips; of (16,1) and (32,1) there are two, codes 0 and 1.
@@ -34,16 +30,6 @@ pub enum TableCode {
     Dsss32x4,
 }
 
-// The values of a group.
-fn values(table: TableCode) -> usize
-    ensures { result ≡ 2 ^ group_bits table }
-{
-    match table {
-        TableCode::Dsss8x4 | TableCode::Dsss16x4 | TableCode::Dsss32x4 => 16,
-        _ => 2,
-    }
-}
-
 impl LineCode for TableCode {
     ghost code = { code_of };
 
@@ -68,26 +54,13 @@ impl LineCode for TableCode {
     }
 
     fn spread(&self, _position: u32, value: u32, chips: &mut [u8]) -> Result<(), Fault> {
-        if chips.len() != self.chips_per_group() {
-            return Err(Fault {
-                kind: FaultKind::ChipCount,
-                place: chips.len(),
-                layer: Layer::Line,
-            });
-        }
-        if value as usize >= values(*self) {
-            return Err(Fault {
-                kind: FaultKind::GroupValue,
-                place: value as usize,
-                layer: Layer::Line,
-            });
-        }
-        write_word(digits(*self), value as usize, chips);
+        self.judge_value(value, chips.len())?;
+        self.write_word(value as usize, chips);
         Ok(())
     }
 
     fn despread(&self, _position: u32, chips: &[u8]) -> Result<(u32, bool), Fault> {
-        judge(Layer::Line, self.chips_per_group(), chips)?;
-        Ok(nearest_word(digits(*self), values(*self), chips))
+        self.judge_chips(chips)?;
+        Ok(self.nearest_value(chips))
     }
 }

@@ -97,20 +97,22 @@ static WORDS_32_4: [u8; 512] = *b"\
     10010110000001110111101110001100\
     11001001011000000111011110111000";
 
-// The words of a table, one after the other.
-pub fn digits(table: TableCode) -> &'static [u8]
-    ensures { word_of result.now ≡ row (words table) }
-{
-    match table {
-        TableCode::Dsss4x1 => &WORDS_4_1,
-        TableCode::Dsss16x1k0 => &WORDS_16_1_0,
-        TableCode::Dsss16x1k1 => &WORDS_16_1_1,
-        TableCode::Dsss32x1k0 => &WORDS_32_1_0,
-        TableCode::Dsss32x1k1 => &WORDS_32_1_1,
-        TableCode::Dsss64x1 => &WORDS_64_1,
-        TableCode::Dsss128x1 => &WORDS_128_1,
-        TableCode::Dsss8x4 => &WORDS_8_4,
-        TableCode::Dsss16x4 => &WORDS_16_4,
-        TableCode::Dsss32x4 => &WORDS_32_4,
+impl TableCode {
+    // The words, one after the other.
+    pub(crate) fn digits(self) -> &'static [u8]
+        ensures { word_of result.now ≡ row (words self) }
+    {
+        match self {
+            TableCode::Dsss4x1 => &WORDS_4_1,
+            TableCode::Dsss16x1k0 => &WORDS_16_1_0,
+            TableCode::Dsss16x1k1 => &WORDS_16_1_1,
+            TableCode::Dsss32x1k0 => &WORDS_32_1_0,
+            TableCode::Dsss32x1k1 => &WORDS_32_1_1,
+            TableCode::Dsss64x1 => &WORDS_64_1,
+            TableCode::Dsss128x1 => &WORDS_128_1,
+            TableCode::Dsss8x4 => &WORDS_8_4,
+            TableCode::Dsss16x4 => &WORDS_16_4,
+            TableCode::Dsss32x4 => &WORDS_32_4,
+        }
     }
 }

@@ -1,27 +1,26 @@
-use Rattle.std.proofs.Common.{◌<◌, length, drop, sym, refl, ◌∙◌, arith, rules}
-use Rattle.std.proofs.lemmas.List.{get_or-map, length-map}
-use Rattle.linecode.specs.Chips.{chip_of, word_of}
-use Rattle.tables.proofs.Distances.{distance_agree, distance_differ, distance_end}
+use Rattle.std.proofs.Common.{[], ◌∷◌, length, length-append, arith, rules}
+use Rattle.std.proofs.lemmas.Slice.Zip.{zip_turn}
+use Rattle.tables.proofs.Distances.{distance_agree, distance_differ}
 use Rattle.tables.proofs.search.chip_distance.Goals as goal
-use Rattle.tables.proofs.search.chip_distance.Goals.{then-chip-c, else-chip-c}
 
-pub loop-i-preserved : goal.loop-i-preserved
-loop-i-preserved c =
-    let digits = c.args.word.now in
-    let xs = word_of digits in
-    let ys = c.args.chips.now in
-    let i = c.loop-i.i in
-    let within : i < length digits = search rules in
-    let long = length-map digits chip_of in
-    let here = get_or-map chip_of digits i 0 0 within ∙ sym c.chip.ensures in
-    elim c.if-chip-c.branch [
-      | then-chip-c w ↦ let d = distance_differ xs ys i _ _ (omega arith) (search rules) here refl (search rules) in (omega arith, omega arith)
-      | else-chip-c w ↦ let d = distance_agree xs ys i _ _ (omega arith) (search rules) here refl (search rules) in (omega arith, omega arith)
-    ]
+pub loop-digit-preserved-then-chip-c : goal.loop-digit-preserved-then-chip-c
+loop-digit-preserved-then-chip-c c =
+    let word = c.args.word.now in
+    let chips = c.args.chips.now in
+    let so_far = c.loop-digit.yielded in
+    let turn = zip_turn word chips so_far c.into_iter-digit-iterator.result c.loop-digit.digit-iterator c.next.new.self _ (search rules) (search rules) c.loop-digit.yielded_by _ c.in-Some.is c.next.ensures.steps in
+    let next = length-append so_far ((c.in-Some.digit, c.in-Some.c) ∷ []) in
+    let d = distance_differ word chips (length so_far) _ _ _ _ turn c.chip.ensures next c.if-chip-c.true in
+    let before = c.loop-digit.invariant in
+    (omega (arith, next, before.0), omega (arith, d, before.1))
 
-pub returns : goal.returns
-returns c =
-    let digits = c.args.word.now in
-    let long = length-map digits chip_of in
-    let e = distance_end (word_of digits) (drop c.loop-i.i c.args.chips.now) c.loop-i.i (search rules) in
-    omega (arith, e)
+pub loop-digit-preserved : goal.loop-digit-preserved
+loop-digit-preserved c =
+    let word = c.args.word.now in
+    let chips = c.args.chips.now in
+    let so_far = c.loop-digit.yielded in
+    let turn = zip_turn word chips so_far c.into_iter-digit-iterator.result c.loop-digit.digit-iterator c.next.new.self _ (search rules) (search rules) c.loop-digit.yielded_by _ c.in-Some.is c.next.ensures.steps in
+    let next = length-append so_far ((c.in-Some.digit, c.in-Some.c) ∷ []) in
+    let d = distance_agree word chips (length so_far) _ _ _ _ turn c.chip.ensures next c.if-chip-c.false in
+    let before = c.loop-digit.invariant in
+    (omega (arith, next, before.0), omega (arith, d, before.1))

@@ -10,7 +10,7 @@ use Rattle.linecode.proofs.straight.StraightLineCode.despread.Goals as goal
 pub returns : goal.returns
 returns c =
     let xs = c.args.chips.now in
-    let ok = sym c.judge.ensures ∙ c.in_ok-judge.was in
+    let ok = sym c.judge_chips.ensures ∙ c.in_ok-judge_chips.was in
     let a = accepted Line 1 xs _ ok in
     let x = get_or xs 0 0 in
     let is =
