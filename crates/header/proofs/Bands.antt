@@ -30,18 +30,18 @@ few_preamble Mhz868 = lit≤ tt
 few_preamble Mhz915 = lit≤ tt
 few_preamble Mhz2450 = lit≤ tt
 
--- the octets as the code lays them out, without the preamble octets that the band lacks
-abbrev pub laid : ℕ → ℕ → List ℕ
-laid w p = take (11 - (8 - p)) (drop (8 - p) (0 ∷ 0 ∷ 0 ∷ 0 ∷ 0 ∷ 0 ∷ 0 ∷ 0 ∷ 0xA7 ∷ w % 256 ∷ w / 256 ∷ []))
+-- the octets as the code lays them out around the PHR's, without the preamble octets that the band lacks
+abbrev pub laid : List ℕ → ℕ → List ℕ
+laid os p = take (11 - (8 - p)) (drop (8 - p) (0 ∷ 0 ∷ 0 ∷ 0 ∷ 0 ∷ 0 ∷ 0 ∷ 0 ∷ 0xA7 ∷ get_or os 0 0 ∷ get_or os 1 0 ∷ []))
 
-laid_at : (b : Band) (m : RateMode) (l : ℕ) → laid (phr m l) (preamble_octets b) ≡ header_octets b m l
+laid_at : (b : Band) (m : RateMode) (l : ℕ) → laid (phr_octets m l) (preamble_octets b) ≡ header_octets b m l
 laid_at Mhz780 m l = refl
 laid_at Mhz868 m l = refl
 laid_at Mhz915 m l = refl
 laid_at Mhz2450 m l = refl
 
-pub laid_out : (b : Band) (m : RateMode) (l w p : ℕ) → w ≡ phr m l → p ≡ preamble_octets b → laid w p ≡ header_octets b m l
-laid_out b m l w p ew ep = ap (λ (x : ℕ). laid x p) ew ∙ (ap (laid (phr m l)) ep ∙ laid_at b m l)
+pub laid_out : (b : Band) (m : RateMode) (l w p : ℕ) (os : List ℕ) → w ≡ phr m l → os ≡ w % 256 ∷ w / 256 ∷ [] → p ≡ preamble_octets b → laid os p ≡ header_octets b m l
+laid_out b m l w p os ew eo ep = ap (λ x. laid x p) (eo ∙ ap (λ (x : ℕ). x % 256 ∷ x / 256 ∷ []) ew) ∙ (ap (laid (phr_octets m l)) ep ∙ laid_at b m l)
 
 -- the octets after the preamble
 pub octet_at : (b : Band) (m : RateMode) (l i : ℕ) → get_or (header_octets b m l) (preamble_octets b + i) 0 ≡ get_or (dsss_sfd ∷ phr_octets m l) i 0

@@ -16,7 +16,7 @@ use Rattle.frames.specs.Sent.{group_value, group_chips}
 use Rattle.frames.specs.Heard.{heard, encoded_bit}
 use Rattle.frames.proofs.Parts.{part_length}
 use Rattle.header.specs.Headers.{octet_stream}
-use Rattle.header.specs.Reading.{AllChips, decoded, encoded_before}
+use Rattle.header.specs.Reading.{AllChips}
 
 module _ (k : Code) (single : k.bits ≡ 1) where
   pub value_one : (s : ℕ → Bool) (j : ℕ) → group_value k s j ≡ one (s j)
@@ -72,8 +72,3 @@ bit_next os j last is = xor_is (message_bit os j) last ∙ (ap (λ b. message_bi
 -- and the one before the next place
 pub before_next : (s : ℕ → Bool) (j : ℕ) → previous false s (j + 1) ≡ s j
 before_next s j = ap (previous false s) (let e : j + 1 ≡ suc j = omega arith in e)
-
--- the bit that is decoded from an encoded bit and the one before it
-pub bit_decoded : (k : Code) (chips : List ℕ) (p : ℕ) (bit last : Bool) → bit ≡ encoded_bit k 0 chips p → last ≡ encoded_before k chips p →
-    not (beq bit last) ≡ decoded k chips p
-bit_decoded k chips p bit last is before = xor_is bit last ∙ (ap (λ b. b ⊕ last) is ∙ ap (λ b. encoded_bit k 0 chips p ⊕ b) before)

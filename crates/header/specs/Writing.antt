@@ -1,6 +1,6 @@
 -- What the call that writes a header answers and leaves.
 -- Assumes nothing.
-use Rattle.std.specs.Prelude.{ℕ, Bool, cond, ◌&&◌, List, length, Ok, Result, ◌==◌, nat_le}
+use Rattle.std.specs.Prelude.{ℕ, Bool, cond, List, length, Ok, Result, ◌==◌}
 use Rattle.faults.specs.declared.Fault.{Fault}
 use Rattle.faults.specs.declared.FaultKind.TheVariants.{ChipCount, FrameLength, RateMode as UnknownMode}
 use Rattle.codebits.specs.Message.{is_length}

@@ -10,6 +10,7 @@ mod setting;
 
 pub use reading::read_header;
 
+// No model: theorems range over the headers that exist, which bring these facts; over the plain values of a model each would need them as premises.
 #[derive(Clone, Copy)]
 pub struct Header {
     band: Band,

@@ -4,9 +4,10 @@ ghost use Rattle.header.specs.Headers.{preamble_octets, header_length};
 ghost use Rattle.header.specs.Writing.{write_answer, written_chips};
 
 use crate::bits::write_octets;
-use crate::fields::{LEAST_LENGTH, MOST_LENGTH, has_mode, phr_of, refusal};
+use crate::fields::{Phr, has_mode};
 use bands::{Band, RateMode, header_line};
-use faults::{Fault, FaultKind};
+use codebits::is_length;
+use faults::{Fault, FaultKind, Layer};
 use linecode::lines::LineCode;
 
 // The octets of the preamble, which are zero.
@@ -37,28 +38,16 @@ pub fn write_header(
     ensures memory { chips.new ≡ written_chips band mode psdu_length chips.old }
 {
     if chips.len() != header_chips(band) {
-        return Err(refusal(FaultKind::ChipCount, chips.len()));
+        return Err(Layer::Header.refusal(FaultKind::ChipCount, chips.len()));
     }
     if !has_mode(band, mode) {
-        return Err(refusal(FaultKind::RateMode, mode.number() as usize));
+        return Err(Layer::Header.refusal(FaultKind::RateMode, mode.number() as usize));
     }
-    if psdu_length < LEAST_LENGTH as usize || psdu_length > MOST_LENGTH as usize {
-        return Err(refusal(FaultKind::FrameLength, psdu_length));
+    if !is_length(psdu_length) {
+        return Err(Layer::Header.refusal(FaultKind::FrameLength, psdu_length));
     }
-    let phr = phr_of(mode, psdu_length as u16);
-    let octets = [
-        0,
-        0,
-        0,
-        0,
-        0,
-        0,
-        0,
-        0,
-        0xA7,
-        (phr % 256) as u8,
-        (phr >> 8) as u8,
-    ];
+    let [low, high] = Phr::new(mode, psdu_length as u16).octets();
+    let octets = [0, 0, 0, 0, 0, 0, 0, 0, 0xA7, low, high];
     let start = 8 - preamble_octets(band);
     Ok(write_octets(&header_line(band), &octets[start..], chips))
 }

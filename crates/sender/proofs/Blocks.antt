@@ -12,7 +12,7 @@ use Rattle.frames.proofs.Parts.{groups_none, groups_split, groups_length}
 use Rattle.frames.proofs.Widths.{few_groups}
 use Rattle.sender.specs.Sending.{State, blocks_to_send, frame_by, sent_stream, block_words, pending, answer, next_chips, chips_after, advanced, state_after}
 use Rattle.sender.specs.Runs.{Call, fresh, after, Written, noted, written, By, part_of, RunsSend}
-use Rattle.sender.proofs.Steps.{sendable_when, most, all_blocks, next_is, is_written, answer_written, state_written}
+use Rattle.sender.proofs.Steps.{is_length_when, most, all_blocks, next_is, is_written, answer_written, state_written}
 
 abbrev room : Call → ℕ
 room c = length c.buffer
@@ -129,7 +129,7 @@ module _ (k : Code) (l : Lawful k) where
   front s (suc n) h =
       let g : ℕ = block_groups k in
       let octets : ℕ = length s.psdu in
-      let can = sendable_when octets 0 (omega arith) in
+      let can = is_length_when octets 0 (omega arith) in
       let all = all_blocks octets can in
       let few = most octets can in
       let rest : ℕ = blocks octets - suc n in

@@ -9,8 +9,8 @@ use Rattle.frames.proofs.Cuts.{sent_cut}
 use Rattle.sender.specs.Sending.{State, blocks_to_send, frame_by, pending, answer, writes, block_words, next_chips, advanced, state_after}
 
 -- a PSDU with a block to send has the right length
-pub sendable_when : (octets b : ℕ) → b < blocks_to_send octets → is_length octets ≡ true
-sendable_when octets b h =
+pub is_length_when : (octets b : ℕ) → b < blocks_to_send octets → is_length octets ≡ true
+is_length_when octets b h =
     ⊎_elim (λ t. t) (λ f. let none : b < 0 = subst (λ (n : ℕ). b < n) (cond-false (is_length octets) (blocks octets) 0 f) h in absurd (omega arith))
     (cases_Bool (is_length octets))
 
@@ -26,7 +26,7 @@ pub next_is : (k : Code) → Lawful k → (s : State) → s.block < blocks_to_se
 unfolding psdu_bit
 next_is k l s left =
     let octets : ℕ = length s.psdu in
-    let can = sendable_when octets s.block left in
+    let can = is_length_when octets s.block left in
     let all = all_blocks octets can in
     sent_cut.block (frame_by k s) s.psdu l (most octets can) s.block (omega arith)
 

@@ -1,6 +1,6 @@
 -- One turn of the encoder: a message bit and the register before it give two code bits and the register after it.
 -- Assumes nothing.
-use Rattle.std.proofs.Common.{◌≡◌, ℕ, ◌+◌, ◌*◌, ◌%◌, ◌<◌, Bool, true, false, cond, eqb, leb, List, [], ◌∷◌, length, get_or, set, ap, arith, length-set}
+use Rattle.std.proofs.Common.{◌≡◌, ℕ, ◌+◌, ◌*◌, ◌%◌, ◌<◌, Bool, true, false, cond, eqb, leb, List, [], ◌∷◌, length, get_or, set, ap, arith}
 use Rattle.std.proofs.lemmas.Bool.{le-leb, eq-eqb, ne_eqb}
 use Rattle.std.proofs.lemmas.List.Edits.{fill_by_more}
 use Rattle.std.proofs.lemmas.Bool.Decides.{nat_tests}
@@ -52,21 +52,13 @@ module _ (m : ℕ → Bool) where
         → next ≡ last_six m (n + 1)
     turn_register next e = let more = six_more n in cc
 
-    pub turn_first : (a : Bool)
-        → a ≡ bit ⊕ get_or register 1 false ⊕ get_or register 2 false ⊕ get_or register 4 false ⊕ get_or register 5 false
-        → a ≡ code_bit m (2 * n)
-    turn_first a e = let code = code_first n in let form = form_first n in cc
+    pub turn_pair : (pair : List Bool)
+        → pair ≡ (bit ⊕ get_or register 1 false ⊕ get_or register 2 false ⊕ get_or register 4 false ⊕ get_or register 5 false) ∷ (bit ⊕ get_or register 0 false ⊕ get_or register 1 false ⊕ get_or register 2 false ⊕ get_or register 5 false) ∷ []
+        → pair ≡ code_bit m (2 * n) ∷ code_bit m (2 * n + 1) ∷ []
+    turn_pair pair e = cc (code_first n, code_second n, form_first n, form_second n)
 
-    pub turn_second : (a : Bool)
-        → a ≡ bit ⊕ get_or register 0 false ⊕ get_or register 1 false ⊕ get_or register 2 false ⊕ get_or register 5 false
-        → a ≡ code_bit m (2 * n + 1)
-    turn_second a e = let code = code_second n in let form = form_second n in cc
-
--- a loop that writes two places in each turn
-pub fill_two : (f : ℕ → Bool) (xs : List Bool) (k : ℕ) (a b : Bool) → 2 * k + 1 < length xs
-    → ((i : ℕ) → i < 2 * k → get_or xs i false ≡ f i) → a ≡ f (2 * k) → b ≡ f (2 * k + 1)
-    → (i : ℕ) → i < 2 * (k + 1) → get_or (set (set xs (2 * k) a) (2 * k + 1) b) i false ≡ f i
-fill_two f xs k a b long below ea eb i h =
-    rw (ea, eb)
-    (fill_by_more f (set xs (2 * k) (f (2 * k))) (2 * k + 1) false (simp length-set long)
-    (fill_by_more f xs (2 * k) false (omega arith) below) i (omega arith))
+-- a loop that writes one pair in each turn
+pub fill_pair : (f : ℕ → List Bool) (xs : List (List Bool)) (k : ℕ) (pair : List Bool) → k < length xs
+    → ((i : ℕ) → i < k → get_or xs i [] ≡ f i) → pair ≡ f k
+    → (i : ℕ) → i < k + 1 → get_or (set xs k pair) i [] ≡ f i
+fill_pair f xs k pair long below e i h = rw e (fill_by_more f xs k [] long below i h)

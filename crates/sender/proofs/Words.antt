@@ -6,7 +6,7 @@ use Rattle.linecode.specs.Codes.{Code, Lawful}
 use Rattle.codebits.specs.Bits.{number_at}
 use Rattle.frames.specs.Sent.{block_groups, block_chips, group_value}
 use Rattle.frames.proofs.Parts.{part_ends}
-use Rattle.frames.proofs.Writes.{words_more, words_all}
+use Rattle.frames.proofs.Writes.{words_more}
 use Rattle.frames.proofs.Widths.{whole_groups}
 use Rattle.sender.specs.Sending.{State, sent_stream, block_words}
 
@@ -35,16 +35,3 @@ module _ (k : Code) (l : Lawful k) (s : State) (g n j : ℕ) (is_g : g ≡ k.bit
       let word : ys ≡ k.word (s.block * block_groups k + j) (group_value k (sent_stream s) (s.block * block_groups k + j))
       = is ∙ (ap (λ (x : ℕ). k.word (s.block * (176 / x) + j) v) is_g ∙ ap (k.word (s.block * block_groups k + j)) value) in
       words_more k (sent_stream s) (s.block * block_groups k) n chips j m ys word long room before
-
-  -- all words are written
-  pub block_words_all : (chips : List ℕ) → j ≡ 176 / g → length chips ≡ block_chips k → take (n * j) chips ≡ block_words k s j → chips ≡ block_words k s (block_groups k)
-  block_words_all chips end room written =
-      let last : j ≡ block_groups k = rw (← is_g) end in
-      let most : length chips ≤ n * j = omega (arith, mul_comm n j, ap (λ (x : ℕ). j * x) is_n, ap (λ (x : ℕ). x * k.chips) last) in
-      words_all k (sent_stream s) (s.block * block_groups k) n chips j most written ∙ ap (block_words k s) last
-
-  pub bits_all : j ≡ 176 / g → g * j ≡ 176
-  bits_all end =
-      let last : j ≡ block_groups k = rw (← is_g) end in
-      let whole = whole_groups 1 k.bits l.width in
-      omega (arith, mul_comm g j, ap (λ (x : ℕ). j * x) is_g, ap (λ (x : ℕ). x * k.bits) last)

@@ -1,6 +1,6 @@
 -- What the calls of the sending end answer and leave.
 -- Assumes nothing.
-use Rattle.std.specs.Prelude.{ℕ, ◌+◌, ◌*◌, Bool, cond, ◌&&◌, List, length, Some, None, Ok, Err, Option, Result, ◌==◌, nat_le, nat_lt}
+use Rattle.std.specs.Prelude.{◌≡◌, ℕ, ◌+◌, ◌*◌, ◌≤◌, Bool, cond, ◌&&◌, List, length, take, Some, None, Ok, Err, Option, Result, ◌==◌, nat_lt}
 use Rattle.faults.specs.declared.Fault.{Fault}
 use Rattle.faults.specs.declared.FaultKind.TheVariants.{PsduLength, ChipCount}
 use Rattle.faults.specs.declared.Layer.TheVariants.{Frame as FrameLayer}
@@ -69,6 +69,11 @@ advanced s = record { psdu = s.psdu; differential = s.differential; last = s.las
 
 abbrev pub state_after : Code → State → ℕ → State
 state_after k s room = cond (writes k s room) (advanced s) s
+
+-- the chips of a whole frame hold the cursor's blocks so far, one behind the other
+pub record Filled (k : Code) (s : State) (chips : List ℕ) : Type 0 where
+  pub bound : s.block ≤ blocks_to_send (length s.psdu)
+  pub front : take (s.block * block_chips k) chips ≡ spread_groups k (sent_stream s) 0 (s.block * block_groups k)
 
 -- Sending a whole PSDU by a frame, with a buffer of so many chips: its answer,
 abbrev pub whole_answer : Frame → ℕ → Result ℕ Fault

@@ -1,8 +1,8 @@
 // A cursor over a PSDU, with the state of the coding before its next block.
-ghost use Rattle.std.specs.Prelude.{◌≡◌, ◌*◌};
-ghost use Rattle.codebits.specs.Message.{message_bit};
-ghost use Rattle.sender.specs.Stored.{last_six, last_sent};
+use crate::coding::Register;
+use std::marker::Model;
 
+mod bits;
 mod calls;
 
 #[derive(Drop)]
@@ -14,9 +14,20 @@ pub struct Cursor<'a> {
     // the blocks written so far
     block: u32,
     // the six message bits before the next block, the newest first
-    register: [bool; 6],
+    register: Register,
     // the bit sent last, before the next block
     last: bool,
-    ghost six: { register ≡ last_six (message_bit psdu.now) (88 * block) },
-    ghost sent: { last ≡ last_sent differential start psdu.now (176 * block) },
+}
+
+// Callers see what is sent, after which bit, and how many blocks of it are written. The stored bits and the bit sent last follow from that.
+impl<'a> Model for Cursor<'a> {
+    ghost use Rattle.sender.specs.Sending.{State};
+
+    ghost Value = { State };
+
+    ghost use Rattle.sender.specs.View.{state_of, Follows};
+
+    ghost view = { state_of };
+
+    ghost invariant = { Follows };
 }

@@ -5,8 +5,8 @@ ghost use Rattle.sender.specs.Runs.{fresh};
 ghost use Rattle.sender.specs.Sending.{frame_by, whole_answer, whole_chips};
 
 use crate::check::{blocks_to_send, check_psdu};
-use crate::coding::CODE_BITS;
 use crate::cursor::Cursor;
+use codebits::BLOCK_CODE_BITS;
 use faults::{Fault, FaultKind, Layer};
 use linecode::lines::LineCode;
 
@@ -14,7 +14,7 @@ use linecode::lines::LineCode;
 pub fn block_chips<L: LineCode>(line: &L) -> usize
     ensures answer { result ≡ block_chips (L.LineCode.code line.now) }
 {
-    CODE_BITS / line.bits_per_group() as usize * line.chips_per_group()
+    BLOCK_CODE_BITS / line.bits_per_group() as usize * line.chips_per_group()
 }
 
 // Writes all the chips of a PSDU, and answers how many blocks they are.
@@ -30,19 +30,10 @@ pub fn send_frame<L: LineCode>(
 {
     check_psdu(psdu)?;
     let blocks = blocks_to_send(psdu.len());
-    let size = block_chips(line);
-    let whole = blocks as usize * size;
-    if chips.len() != whole {
-        return Err(Fault {
-            kind: FaultKind::ChipCount,
-            place: chips.len(),
-            layer: Layer::Frame,
-        });
+    if chips.len() != blocks as usize * block_chips(line) {
+        return Err(Layer::Frame.refusal(FaultKind::ChipCount, chips.len()));
     }
     let mut cursor = Cursor::new(psdu, differential, last);
-    let mut from = 0;
-    while let Some(_) = cursor.next_block(line, &mut chips[from..whole.min(from + size)])? {
-        from += size;
-    }
+    while let Some(_) = cursor.next_in_frame(line, chips)? {}
     Ok(blocks)
 }

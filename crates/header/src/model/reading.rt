@@ -1,32 +1,55 @@
 // Headers read from chips.
-ghost use Rattle.std.specs.Prelude.{◌≡◌, ◌+◌, ◌*◌, ◌<◌, ◌≤◌, [], ◌∷◌, length};
-ghost use Rattle.header.specs.Reading.{AllChips, heard_octet, encoded_before, read_answer};
+ghost use Rattle.std.specs.Prelude.{◌≡◌, length, slice_index};
+ghost use Rattle.header.specs.Phr.{read_phr, read_fields};
+ghost use Rattle.header.specs.Reading.{with_last, read_answer};
 ghost use Rattle.header.specs.View.{said};
 
 use super::Header;
-use crate::bits::{encoded_bit, read_octet};
-use crate::fields::read_fields;
+use crate::bits::HeardBits;
+use crate::fields::{HIGH_BITS, LOW_BITS, Phr, has_mode};
 use crate::writing::{header_chips, preamble_octets};
 use bands::{Band, header_line};
-use faults::{Fault, Layer};
+use codebits::is_length;
+use faults::{Fault, FaultKind, Layer};
 use linecode::checks::judge;
-use linecode::lines::LineCode;
 
-// The three octets after the preamble, and the last encoded bit. Of the preamble only its last bit is read.
-fn read_octets<L: LineCode>(line: &L, preamble: usize, chips: &[u8]) -> ([u8; 3], bool)
-    requires single { (L.LineCode.code line.now).bits ≡ 1 }
-    requires some { (0 < preamble) × (preamble ≤ 8) }
-    requires room { length chips.now ≡ 8 * (preamble + 3) * (L.LineCode.code line.now).chips }
-    requires chips { AllChips chips.now }
-    ensures octets { result.0 ≡ heard_octet (L.LineCode.code line.now) chips.now preamble ∷ heard_octet (L.LineCode.code line.now) chips.now (preamble + 1) ∷ heard_octet (L.LineCode.code line.now) chips.now (preamble + 2) ∷ [] }
-    ensures last { result.1 ≡ encoded_before (L.LineCode.code line.now) chips.now (8 * (preamble + 3)) }
+// The header of a PHR, or its first fault.
+fn read_phr(band: Band, phr: Phr, last: bool) -> Result<Header, Fault>
+    ensures { said result ≡ with_last band last (read_phr band phr.bits) }
 {
-    let start = 8 * preamble;
-    let before = encoded_bit(line, chips, start - 1);
-    let (sfd, before) = read_octet(line, chips, start, before);
-    let (low, before) = read_octet(line, chips, start + 8, before);
-    let (high, last) = read_octet(line, chips, start + 16, before);
-    ([sfd, low, high], last)
+    if phr.bit(0) != phr.parity(LOW_BITS) {
+        return Err(Layer::Header.refusal(FaultKind::Parity, 0));
+    }
+    if phr.bit(1) != phr.parity(HIGH_BITS) {
+        return Err(Layer::Header.refusal(FaultKind::Parity, 1));
+    }
+    let mode = phr.mode();
+    if !has_mode(band, mode) {
+        return Err(Layer::Header.refusal(FaultKind::RateMode, mode.number() as usize));
+    }
+    let length = phr.length();
+    if !is_length(length as usize) {
+        return Err(Layer::Header.refusal(FaultKind::FrameLength, length as usize));
+    }
+    Ok(Header {
+        band,
+        mode,
+        length,
+        last,
+    })
+}
+
+// The header of the SFD and the two octets of the PHR, or the first fault.
+fn read_fields(band: Band, octets: &[u8], last: bool) -> Result<Header, Fault>
+    requires { length octets.now ≡ 3 }
+    ensures { said result ≡ with_last band last (read_fields band (slice_index octets.now 0) (slice_index octets.now 1) (slice_index octets.now 2)) }
+{
+    match octets {
+        [0xA7, lo, hi] => read_phr(band, Phr::from_octets([*lo, *hi]), last),
+        [0x58, _, _] => Err(Layer::Header.refusal(FaultKind::MultiplexedSfd, 0x58)),
+        [other, _, _] => Err(Layer::Header.refusal(FaultKind::UnknownSfd, *other as usize)),
+        _ => unreachable(),
+    }
 }
 
 // The header that the chips carry, or the first fault.
@@ -34,12 +57,8 @@ pub fn read_header(band: Band, chips: &[u8]) -> Result<Header, Fault>
     ensures answer { said result ≡ read_answer band chips.now }
 {
     judge(Layer::Header, header_chips(band), chips)?;
-    let (octets, last) = read_octets(&header_line(band), preamble_octets(band), chips);
-    let (mode, length) = read_fields(band, &octets)?;
-    Ok(Header {
-        band,
-        mode,
-        length,
-        last,
-    })
+    let line = header_line(band);
+    let mut heard = HeardBits::new(&line, chips);
+    let octets = heard.octets_after(preamble_octets(band));
+    read_fields(band, &octets, heard.last())
 }

@@ -1,8 +1,8 @@
-use Rattle.std.proofs.Common.{◌≡◌, ℕ, ◌+◌, ◌-◌, ◌*◌, ◌<◌, ◌≤◌, false, List, length, take, drop, sym, refl, ap, ◌∙◌, mul_comm, zero-add, arith, rules}
+use Rattle.std.proofs.Common.{◌≡◌, ℕ, ◌+◌, ◌-◌, ◌*◌, ◌<◌, ◌≤◌, false, not, List, length, take, drop, sym, refl, ap, ◌∙◌, mul_comm, zero-add, arith, rules}
+use mathlib.Core.Bool.{beq}
 use Rattle.std.proofs.lemmas.List.{length-take, length-drop}
 use Rattle.linecode.specs.Codes.{Code}
 use Rattle.codebits.specs.Bits.{one, previous}
-use Rattle.codebits.specs.Message.{message_bit}
 use Rattle.codebits.proofs.Numbers.{byte_one}
 use Rattle.frames.specs.Sent.{group_value, spread_groups}
 use Rattle.frames.proofs.Parts.{part_ends}
@@ -25,14 +25,13 @@ slice_bounds-spread-end g c =
     search rules
 
 pub loop-j-preserved : goal.loop-j-preserved
-unfolding message_bit
 loop-j-preserved g c =
     let k : Code = g.L.LineCode.code c.args.line.now in
     let os : List ℕ = c.args.octets.now in
     let n : ℕ = c.chips_per_group-n.result in
     let j : ℕ = c.loop-j.j in
     let within : n * j + n ≤ length c.args.chips.now = ends _ _ (8 * length os) j _ c.chips_per_group-n.ensures c.requires.room (omega arith) in
-    let bit = bit_next os j c.loop-j.last c.loop-j.invariant.1 in
+    let bit : not (beq c.message_bit.result c.loop-j.last) ≡ octet_stream os j = ap (λ b. not (beq b c.loop-j.last)) c.message_bit.ensures.answer ∙ bit_next os j c.loop-j.last c.loop-j.invariant.1 in
     let value : c.from.result ≡ one (octet_stream os j) = c.from.ensures ∙ (byte_one _ ∙ ap one bit) in
     let slice : List ℕ = take (n * j + n - n * j) (drop (n * j) c.loop-j.chips) in
     let long : length slice ≡ n = simp (length-take, length-drop) (omega arith) in

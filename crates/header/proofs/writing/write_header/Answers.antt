@@ -1,5 +1,5 @@
-use Rattle.std.proofs.Common.{◌≡◌, ℕ, true, length, Ok, sym, ap, ◌∙◌, arith}
-use Rattle.std.proofs.lemmas.Bool.{cond-true, eq-eqb, le-leb, and_from}
+use Rattle.std.proofs.Common.{◌≡◌, ℕ, true, length, Ok, sym, ap, ◌∙◌}
+use Rattle.std.proofs.lemmas.Bool.{cond-true, eq-eqb}
 use Rattle.linecode.specs.Codes.{Code}
 use Rattle.bands.specs.Modes.{header_code}
 use Rattle.header.specs.Phr.{has_mode}
@@ -13,12 +13,12 @@ returns c =
     let b = c.args.band in
     let m = c.args.mode in
     let l : ℕ = c.args.psdu_length in
-    let os = laid_out b m l _ _ c.phr_of-phr.ensures c.preamble_octets-start.ensures in
+    let os = laid_out b m l _ _ _ c.new.ensures c.octets.ensures c.preamble_octets-start.ensures in
     let room = eq-eqb (length c.args.chips.now) (header_length b) (c.if-chips-header_chips.false ∙ c.header_chips.ensures.answer) in
     let known : has_mode b m ≡ true = sym c.has_mode.ensures.answer ∙ c.if-not-has_mode.false in
-    let fits : is_length l ≡ true = and_from _ _ (le-leb 4 l (omega arith)) (le-leb l 2047 (omega arith)) in
+    let fits : is_length l ≡ true = sym c.is_length.ensures.answer ∙ c.if-not-is_length.false in
     record {
       answer = ap Ok (c.write_octets.ensures.last ∙ ap last_encoded os) ∙ sym (cond-true _ _ _ room ∙ (cond-true _ _ _ known ∙ cond-true _ _ _ fits));
-      memory = c.write_octets.ensures.chips ∙ (ap (λ (k : Code). octet_chips k (laid c.phr_of-phr.result c.preamble_octets-start.result)) c.header_line.ensures ∙ ap (octet_chips (header_code b)) os)
+      memory = c.write_octets.ensures.chips ∙ (ap (λ (k : Code). octet_chips k (laid c.octets.result c.preamble_octets-start.result)) c.header_line.ensures ∙ ap (octet_chips (header_code b)) os)
           ∙ sym (cond-true _ _ _ room ∙ (cond-true _ _ _ known ∙ cond-true _ _ _ fits));
     }

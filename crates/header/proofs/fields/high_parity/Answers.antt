@@ -1,5 +1,0 @@
-use Rattle.header.proofs.Parities.{sum_is}
-use Rattle.header.proofs.fields.high_parity.Goals as goal
-
-pub returns : goal.returns
-returns c = sum_is c.args.phr 9 7
