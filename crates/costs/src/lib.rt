@@ -31,19 +31,14 @@ impl Observation {
     pub fn bit(self) -> bool
         ensures { result ≡ bit_of self }
     {
-        match self {
-            Observation::Sure(bit) => bit,
-            Observation::Doubtful(bit) => bit,
-        }
+        let (Observation::Sure(bit) | Observation::Doubtful(bit)) = self;
+        bit
     }
 
     pub fn is_doubtful(self) -> bool
         ensures { result ≡ doubt_of self }
     {
-        match self {
-            Observation::Sure(_) => false,
-            Observation::Doubtful(_) => true,
-        }
+        matches!(self, Observation::Doubtful(_))
     }
 }
 
@@ -52,12 +47,14 @@ pub trait CostKind: Copy {
     // What the calls answer.
     ghost kind: { Kind Observation Self };
 
+    // Not by `Default`: each kind writes out what costs nothing.
     fn nothing() -> Self
         ensures { result ≡ kind.nothing };
 
     fn charge(self, observed: Observation, claimed: bool) -> Self
         ensures { result ≡ kind.charge self observed claimed };
 
+    // Not by `Ord`, which would ask for an order that is total among all costs, and not only among those that a frame can come to.
     fn at_most(self, other: Self) -> bool
         ensures { result ≡ kind.at_most self other };
 
@@ -66,7 +63,7 @@ pub trait CostKind: Copy {
 }
 
 // The count: how many observed bits differ from the claimed ones.
-#[derive(Clone, Copy, PartialEq, Eq, Debug)]
+#[derive(Clone, Copy, PartialEq, Eq, PartialOrd, Ord, Debug)]
 pub struct Count {
     pub differing: u32,
 }
@@ -91,12 +88,12 @@ impl CostKind for Count {
     }
 
     fn at_most(self, other: Count) -> bool {
-        self.differing <= other.differing
+        self <= other
     }
 }
 
-// The graded cost: the differences at sure bits, and then those at doubtful ones.
-#[derive(Clone, Copy, PartialEq, Eq, Debug)]
+// The graded cost: the differences at sure bits, and then those at doubtful ones. The fields stand in the order in which costs compare them.
+#[derive(Clone, Copy, PartialEq, Eq, PartialOrd, Ord, Debug)]
 pub struct Graded {
     pub sure: u32,
     pub doubtful: u32,
@@ -119,23 +116,23 @@ impl CostKind for Graded {
             self
         } else if observed.is_doubtful() {
             Graded {
-                sure: self.sure,
                 doubtful: self.doubtful.saturating_add(1),
+                ..self
             }
         } else {
             Graded {
                 sure: self.sure.saturating_add(1),
-                doubtful: self.doubtful,
+                ..self
             }
         }
     }
 
     fn at_most(self, other: Graded) -> bool {
-        self.sure < other.sure || self.sure == other.sure && self.doubtful <= other.doubtful
+        self <= other
     }
 }
 
-// The count keeps the laws of a kind of cost.
+// The count keeps the laws of a kind of cost. One theorem for every kind would only say the trait's own law again.
 pub fn count_keeps_the_laws()
     ensures { Laws most_charges count_kind }
 {}

@@ -1,6 +1,6 @@
 -- A block that was despread: its encoded bits and what is observed of its code bits are those of its values.
 -- Assumes nothing.
-use Rattle.std.proofs.Common.{◌≡◌, ℕ, ◌*◌, ◌/◌, ◌%◌, ◌<◌, min, Bool, true, false, List, map, length, get_or, Ok, Result, sym, refl, ap, ◌∙◌, subst, div-le_self, arith}
+use Rattle.std.proofs.Common.{◌≡◌, ℕ, ◌*◌, ◌/◌, ◌%◌, ◌<◌, min, Bool, true, false, List, map, length, get_or, Ok, Result, sym, refl, ap, ◌∙◌, div-le_self, arith}
 use Rattle.std.specs.List.{range_with_len}
 use Rattle.std.proofs.lemmas.Nat.{div_below}
 use Rattle.std.proofs.lemmas.List.FromFn.{get_or-map-range_with_len, length-map-range_with_len, fill_by_all}
@@ -27,10 +27,6 @@ whole_block = by_width (λ g. 176 / g * g ≡ 176) refl refl refl refl
 
 pub room_of : (g n : ℕ) → n ≡ 176 → min (176 / g) n ≡ 176 / g
 room_of g n e = let less = div-le_self 176 g in omega arith
-
--- what a call's bits per group are
-pub told_width : (k : Code) → Lawful k → (g : ℕ) → g ≡ k.bits → Width g
-told_width k l g e = subst Width (sym e) l.width
 
 -- what an observation was made of
 pub bit_of_lem : (b d : Bool) → bit_of (observation b d) ≡ b

@@ -27,9 +27,6 @@ module _ (k : Code) (first m n : ℕ) (xs : List ℕ) (e : n ≡ k.chips) (u : U
   pub whole_good : Ok tt ≡ judged Frame (m * k.chips) xs
   whole_good = sym (ap (λ c. judged Frame (m * c) xs) (sym e) ∙ good)
 
-  pub group_end : (j : ℕ) → j < m → j * n + n ≤ length xs
-  group_end j h = let a = accepted Frame (m * n) xs u good in let s = a.sized in omega (arith, group_ends m n j h)
-
   pub group_read : (j : ℕ) → j < m → despread_answer k (first + j) (take (j * n + n - j * n) (drop (j * n) xs)) ≡ Ok (heard k first xs j)
   unfolding heard
   group_read j h =

@@ -11,6 +11,7 @@ ghost use Rattle.reading.specs.Groups.{values_after, encoded_seen, decoded_seen}
 ghost use Rattle.reading.specs.Reading.{read_answer, read_after};
 ghost use Rattle.reading.specs.Frames.{FrameReads};
 
+use codebits::BLOCK_CODE_BITS;
 use costs::Observation;
 use faults::{Fault, Layer};
 use linecode::checks::judge;
@@ -31,9 +32,10 @@ fn despread_groups<L: LineCode>(
 {
     let count = line.chips_per_group();
     judge(Layer::Frame, values.len() * count, chips)?;
-    for j in 0..values.len() {
+    for (j, value) in values.iter_mut().enumerate() {
+        // A rule of the project: the line code is handed a part that starts in the middle of the chips.
         let start = j * count;
-        values[j] = line.despread(first + j as u32, &chips[start..start + count])?;
+        *value = line.despread(first + j as u32, &chips[start..start + count])?;
     }
     Ok(())
 }
@@ -47,60 +49,56 @@ fn moved_in(k: usize) -> usize
     16 * ((175 - k) % 11) + (175 - k) / 11
 }
 
-// Encoded bit `place`, from the values of the groups, of so many bits each.
-fn encoded_at(values: &[(u32, bool)], bits: usize, place: usize) -> Observation
-    requires some { 0 < bits }
-    requires few { bits ≤ 8 }
-    requires within { place / bits < length values.now }
-    ensures { result ≡ encoded_seen values.now bits place }
-{
-    let (value, tied) = values[place / bits];
-    Observation::of((value >> (place % bits)) & 1 == 1, tied)
-}
-
-// Decoded bit `place`, after the encoded bit `last`.
-fn decoded_at(
-    values: &[(u32, bool)],
+// A block whose groups are despread: their values, of so many bits each, and the encoded bit before it, after which differential decoding goes on.
+// That bit is no option of the coding: it is there, and told to the next block, under either.
+#[derive(Clone, Copy)]
+struct Groups<'a> {
+    values: &'a [(u32, bool)],
     bits: usize,
     differential: bool,
     last: Observation,
-    place: usize,
-) -> Observation
-    requires some { 0 < bits }
-    requires few { bits ≤ 8 }
-    requires within { place / bits < length values.now }
-    ensures { result ≡ decoded_seen differential last (encoded_seen values.now bits) place }
-{
-    let here = encoded_at(values, bits, place);
-    if !differential {
-        return here;
+    ghost some: { 0 < bits },
+    ghost few: { bits ≤ 8 },
+    ghost whole: { length values.now * bits ≡ 176 },
+}
+
+impl Groups<'_> {
+    // Encoded bit `place`.
+    fn encoded(&self, place: usize) -> Observation
+        requires { place < 176 }
+        ensures { result ≡ encoded_seen self.now.values.now self.now.bits place }
+    {
+        let (value, tied) = self.values[place / self.bits];
+        Observation::of((value >> (place % self.bits)) & 1 == 1, tied)
     }
-    let before = if place == 0 {
-        last
-    } else {
-        encoded_at(values, bits, place - 1)
-    };
-    Observation::of(
-        here.bit() != before.bit(),
-        here.is_doubtful() || before.is_doubtful(),
-    )
-}
 
-// What is observed of the code bits of a block, from the values of its groups.
-fn decode_groups(
-    values: &[(u32, bool)],
-    bits: usize,
-    differential: bool,
-    last: Observation,
-    observed: &mut [Observation; 176],
-)
-    requires some { 0 < bits }
-    requires few { bits ≤ 8 }
-    requires whole { length values.now * bits ≡ 176 }
-    ensures { observed.new ≡ map (λ j. decoded_seen differential last (encoded_seen values.now bits) (moved_in j)) (range_with_len 0 176) }
-{
-    for j in 0..176 {
-        observed[j] = decoded_at(values, bits, differential, last, moved_in(j));
+    // Decoded bit `place`.
+    fn decoded(&self, place: usize) -> Observation
+        requires { place < 176 }
+        ensures { result ≡ decoded_seen self.now.differential self.now.last (encoded_seen self.now.values.now self.now.bits) place }
+    {
+        let here = self.encoded(place);
+        if !self.differential {
+            return here;
+        }
+        let before = if place == 0 {
+            self.last
+        } else {
+            self.encoded(place - 1)
+        };
+        Observation::of(
+            here.bit() != before.bit(),
+            here.is_doubtful() || before.is_doubtful(),
+        )
+    }
+
+    // What is observed of the code bits.
+    fn decode(&self, observed: &mut [Observation; BLOCK_CODE_BITS])
+        ensures { observed.new ≡ map (λ j. decoded_seen self.now.differential self.now.last (encoded_seen self.now.values.now self.now.bits) (moved_in j)) (range_with_len 0 176) }
+    {
+        for (j, seen) in observed.iter_mut().enumerate() {
+            *seen = self.decoded(moved_in(j));
+        }
     }
 }
 
@@ -112,19 +110,26 @@ pub fn read_block<L: LineCode>(
     block: u32,
     last: Observation,
     chips: &[u8],
-    observed: &mut [Observation; 176],
+    observed: &mut [Observation; BLOCK_CODE_BITS],
 ) -> Result<Observation, Fault>
     requires { block < 187 }
     ensures answer { result ≡ read_answer (L.LineCode.code line.now) (block * block_groups (L.LineCode.code line.now)) chips.now }
     ensures memory { observed.new ≡ read_after result (L.LineCode.code line.now) differential last (block * block_groups (L.LineCode.code line.now)) chips.now observed.old }
 {
     let bits = line.bits_per_group();
-    let groups = 176 / bits;
-    let mut values = [(0, false); 176];
-    let part = &mut values[..groups as usize];
-    despread_groups(line, block * groups, chips, part)?;
-    decode_groups(part, bits as usize, differential, last, observed);
-    Ok(encoded_at(part, bits as usize, 175))
+    let count = BLOCK_CODE_BITS as u32 / bits;
+    let mut values = [(0, false); BLOCK_CODE_BITS];
+    // No heap, so the values take a part of the most groups that a block has.
+    let part = &mut values[..count as usize];
+    despread_groups(line, block * count, chips, part)?;
+    let groups = Groups {
+        values: part,
+        bits: bits as usize,
+        differential,
+        last,
+    };
+    groups.decode(observed);
+    Ok(groups.encoded(BLOCK_CODE_BITS - 1))
 }
 
 // A frame whose blocks are read one after the other is read whole.

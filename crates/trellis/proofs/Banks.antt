@@ -1,16 +1,15 @@
 -- What is written to a bank, and that a step goes by the costs of the 64 states alone.
 -- Assumes nothing.
-use Rattle.std.proofs.Common.{◌≡◌, ℕ, zero, suc, ◌+◌, ◌-◌, ◌*◌, ◌%◌, ◌<◌, ◌≤◌, Bool, true, false, ◌≢◌, ◌⊎◌, List, length, get_or, drop, set, sym, refl, ap, ◌∙◌, inl, inr, zero-add, arith}
+use Rattle.std.proofs.Common.{◌≡◌, ℕ, zero, suc, ◌+◌, ◌*◌, ◌<◌, ◌≤◌, Bool, true, false, ◌≢◌, List, length, get_or, take, set, sym, refl, ap, ◌∙◌, inl, inr, zero-add, arith, length-set}
 use Rattle.std.proofs.lemmas.List.FromFn.{length-map-range_with_len, get_or-map-range_with_len, fill_by_all}
-use Rattle.std.proofs.lemmas.List.{get_or-set_same, get_or-set_other, get_or-drop, length-drop, ext_get_or}
+use Rattle.std.proofs.lemmas.List.{get_or-set_same, get_or-set_other, get_or-take}
 use Rattle.std.proofs.lemmas.Bool.{cases_lt}
-use Rattle.codebits.specs.Message.{block_bits}
 use Rattle.costs.specs.Kind.{Kind}
 use Rattle.codebits.proofs.Numbers.{one_small}
-use Rattle.nearest.specs.Trellis.{before, free, candidate, takes, stepped}
+use Rattle.nearest.specs.Trellis.{before, candidate, takes, stepped}
 use Rattle.codebits.proofs.Numbers.{number_same}
-use Rattle.trellis.specs.Memory.{state_count, bank_of, word_of, Written}
-use Rattle.trellis.specs.Block.{ran, took, banks, took_word, block_words}
+use Rattle.trellis.specs.Memory.{state_count, cost_in, bank_of, word_of, Written}
+use Rattle.trellis.specs.Block.{start_of}
 
 pub before_small : (s : ℕ) (d : Bool) → s < 64 → before s d < 64
 before_small s d h = omega (arith, one_small d)
@@ -18,16 +17,6 @@ before_small s d h = omega (arith, one_small d)
 -- two ways to give the costs that agree at the 64 states
 abbrev pub Alike : {A : Type 0} → (ℕ → A) → (ℕ → A) → Type 0
 Alike f g = (s : ℕ) → s < state_count → f s ≡ g s
-
--- a place of one bank is none of those that are written to the other
-pub apart : (from to lo hi s : ℕ) → from % 64 ≡ 0 → from + to ≡ 64 → hi ≤ 64 → s < 64 → (from + s < to + lo) ⊎ (to + hi ≤ from + s)
-apart from to lo hi s whole both le h = elim (cases_lt from 64) [ inl lt ↦ inl (omega arith) | inr ge ↦ inr (omega arith) ]
-
--- what is not written stays
-pub drop_same : {C : Type 0} (none : C) (n : ℕ) (old new : List C) → length new ≡ length old → ((i : ℕ) → n ≤ i → get_or new i none ≡ get_or old i none) → drop n new ≡ drop n old
-drop_same none n old new len same =
-    ext_get_or none (drop n new) (drop n old) (length-drop n new ∙ (ap (λ m. m - n) len ∙ sym (length-drop n old)))
-    (λ i l. get_or-drop n new i none ∙ (same (n + i) (omega arith) ∙ sym (get_or-drop n old i none)))
 
 pub bank_length : {C : Type 0} (cost : ℕ → C) → length (bank_of cost) ≡ state_count
 unfolding bank_of
@@ -37,9 +26,18 @@ pub bank_at : {C : Type 0} (cost : ℕ → C) (s : ℕ) (d : C) → s < state_co
 unfolding bank_of
 bank_at cost s d h = get_or-map-range_with_len cost 0 state_count s s d h (zero-add s)
 
-bank_same : {C : Type 0} (none : C) (f g : ℕ → C) → Alike f g → bank_of f ≡ bank_of g
+pub cost_at : {O C : Type 0} (kind : Kind O C) (cost : ℕ → C) → Alike (cost_in kind (bank_of cost) 0) cost
+cost_at kind cost s h = rw (zero-add s) (bank_at cost s kind.nothing h)
+
+-- a bank is known by the costs of its states
+pub bank_is : {O C : Type 0} (kind : Kind O C) (cost : ℕ → C) (bank : List C) → length bank ≡ state_count → Alike (cost_in kind bank 0) cost → bank ≡ bank_of cost
 unfolding bank_of
-bank_same none f g h = fill_by_all g (bank_of f) state_count none (bank_length f) (λ k l. bank_at f k none l ∙ h k l)
+bank_is kind cost bank len h = fill_by_all cost bank state_count kind.nothing len (λ s l. sym (ap (λ p. get_or bank p kind.nothing) (zero-add s)) ∙ h s l)
+
+-- what the states cost before a block is told by bank one
+pub starts_in_front : {O C : Type 0} (kind : Kind O C) (block : ℕ) (costs : List C) → Alike (start_of kind block (take state_count costs)) (start_of kind block costs)
+starts_in_front kind zero costs s h = refl
+starts_in_front kind (suc block) costs s h = get_or-take state_count costs (0 + s) kind.nothing (omega arith)
 
 pub word_same : (f g : ℕ → Bool) → Alike f g → word_of f ≡ word_of g
 unfolding word_of
@@ -59,69 +57,51 @@ module _ {O C : Type 0} (kind : Kind O C) (a b : O) (is_free : Bool) (f g : ℕ 
   unfolding stepped
   stepped_same s h = rw (takes_same s h) (candidate_same (takes kind a b is_free g s) s h)
 
--- and so do all steps of a block
-module _ {O C : Type 0} (kind : Kind O C) (observed : ℕ → O) (e first : ℕ) (f g : ℕ → C) (same : Alike f g) where
-  pub ran_same : (n : ℕ) → Alike (ran kind observed e first f n) (ran kind observed e first g n)
-  unfolding ran
-  ran_same zero s h = same s h
-  ran_same (suc n) s h =
-      stepped_same kind (observed (2 * n)) (observed (suc (2 * n))) (free e (first + n)) (ran kind observed e first f n) (ran kind observed e first g n) (ran_same n) s h
-
-  took_same : (n : ℕ) → Alike (took kind observed e first f n) (took kind observed e first g n)
-  unfolding took
-  took_same n =
-      takes_same kind (observed (2 * n)) (observed (suc (2 * n))) (free e (first + n)) (ran kind observed e first f n) (ran kind observed e first g n) (ran_same n)
-
-  pub banks_same : banks kind observed e first f ≡ banks kind observed e first g
-  unfolding banks
-  banks_same =
-      rw (bank_same kind.nothing _ _ (ran_same block_bits), bank_same kind.nothing _ _ (ran_same (block_bits - 1)))
-
-  took_word_same : (k : ℕ) → took_word kind observed e first f k ≡ took_word kind observed e first g k
-  unfolding took_word
-  took_word_same k = word_same _ _ (took_same k)
-
-  pub words_same : block_words kind observed e first f ≡ block_words kind observed e first g
-  unfolding block_words
-  words_same =
-      fill_by_all (took_word kind observed e first g) _ block_bits 0 (length-map-range_with_len (took_word kind observed e first f) 0 block_bits)
-      (λ k l. get_or-map-range_with_len (took_word kind observed e first f) 0 block_bits k k 0 l (zero-add k) ∙ took_word_same k)
-
 -- nothing is written yet; one more state; and a part after a part
-module _ {C : Type 0} (none : C) (cost : ℕ → C) (to : ℕ) where
-  pub written_none : (lo : ℕ) (old : List C) → Written none cost to lo lo old old
+module _ {C : Type 0} (none : C) (cost : ℕ → C) where
+  pub written_none : (lo : ℕ) (old : List C) → Written none cost lo lo old old
   written_none lo old = record { here = λ s a b. absurd (omega arith); elsewhere = λ i h. refl }
 
   pub written_more :
-      (lo n i : ℕ) (x : C) (old new : List C) → lo ≤ n → i ≡ to + n → i < length new → Written none cost to lo n old new → x ≡ cost n →
-      Written none cost to lo (n + 1) old (set new i x)
-  written_more lo n i x old new le at room w e = record {
+      (lo n : ℕ) (x : C) (old new : List C) → lo ≤ n → n < length new → Written none cost lo n old new → x ≡ cost n →
+      Written none cost lo (n + 1) old (set new n x)
+  written_more lo n x old new le room w e = record {
     here = λ s a b. elim (cases_lt s n) [
-      | inl lt ↦ let ne : to + s ≢ i = omega arith in get_or-set_other new i (to + s) x none ne ∙ w.here s a lt
-      | inr ge ↦
-          let last : s ≡ n = omega arith in
-          let place : to + n ≡ i = omega arith in
-          rw (last, place) (get_or-set_same new i x none room ∙ e)
+      | inl lt ↦ let ne : s ≢ n = omega arith in get_or-set_other new n s x none ne ∙ w.here s a lt
+      | inr ge ↦ let last : s ≡ n = omega arith in rw last (get_or-set_same new n x none room ∙ e)
     ];
     elsewhere = λ k h. elim h [
-      | inl lt ↦ let ne : k ≢ i = omega arith in get_or-set_other new i k x none ne ∙ w.elsewhere k (inl lt)
+      | inl lt ↦ let ne : k ≢ n = omega arith in get_or-set_other new n k x none ne ∙ w.elsewhere k (inl lt)
       | inr ge ↦
-          let ne : k ≢ i = omega arith in
-          let past : to + n ≤ k = omega arith in
-          get_or-set_other new i k x none ne ∙ w.elsewhere k (inr past)
+          let ne : k ≢ n = omega arith in
+          let past : n ≤ k = omega arith in
+          get_or-set_other new n k x none ne ∙ w.elsewhere k (inr past)
     ];
   }
 
-  pub written_join :
-      (other : ℕ → C) (lo mid hi : ℕ) (old new last : List C) → lo ≤ mid → mid ≤ hi → ((s : ℕ) → s < hi → other s ≡ cost s) →
-      Written none cost to lo mid old new → Written none other to mid hi new last → Written none cost to lo hi old last
-  written_join other lo mid hi old new last le le' same w v = record {
+  -- the two states of butterfly i of those from `base` on
+  pub written_two :
+      (base i : ℕ) (x y : C) (old new : List C) → 2 * (base + i) + 1 < length new → Written none cost (2 * base) (2 * (base + i)) old new →
+      x ≡ cost (2 * (base + i)) → y ≡ cost (2 * (base + i) + 1) → Written none cost (2 * base) (2 * (base + (i + 1))) old (set (set new (2 * (base + i)) x) (2 * (base + i) + 1) y)
+  written_two base i x y old new room w is_x is_y =
+      let n = 2 * (base + i) in
+      let end : 2 * (base + (i + 1)) ≡ n + 1 + 1 = omega arith in
+      let room_1 : n + 1 < length (set new n x) = rw (length-set new n x) room in
+      rw end (written_more (2 * base) (n + 1) y old (set new n x) (omega arith) room_1 (written_more (2 * base) n x old new (omega arith) (omega arith) w is_x) is_y)
+
+  pub written_join : (mid hi : ℕ) (old new last : List C) → mid ≤ hi → Written none cost 0 mid old new → Written none cost mid hi new last → Written none cost 0 hi old last
+  written_join mid hi old new last le w v = record {
     here = λ s a b. elim (cases_lt s mid) [
-      | inl lt ↦ let before : to + s < to + mid = omega arith in v.elsewhere (to + s) (inl before) ∙ w.here s a lt
-      | inr ge ↦ v.here s ge b ∙ same s b
+      | inl lt ↦ v.elsewhere s (inl lt) ∙ w.here s a lt
+      | inr ge ↦ v.here s ge b
     ];
     elsewhere = λ k h. elim h [
-      | inl lt ↦ let before : k < to + mid = omega arith in v.elsewhere k (inl before) ∙ w.elsewhere k (inl lt)
-      | inr ge ↦ let past : to + mid ≤ k = omega arith in v.elsewhere k (inr ge) ∙ w.elsewhere k (inr past)
+      | inl lt ↦ absurd (omega arith)
+      | inr ge ↦ let past : mid ≤ k = omega arith in v.elsewhere k (inr ge) ∙ w.elsewhere k (inr past)
     ];
   }
+
+  -- a bank whose states are all written
+  pub written_all : (old new : List C) → length new ≡ state_count → Written none cost 0 state_count old new → new ≡ bank_of cost
+  unfolding bank_of
+  written_all old new len w = fill_by_all cost new state_count none len (λ s l. w.here s (omega arith) l)

@@ -36,6 +36,18 @@ one_at i h = one_shl (2 * i) 32 (omega arith)
 pub two_at : (i : ℕ) → i < 16 → (2 * 2 ^ (2 * i)) % 2 ^ 32 ≡ 2 ^ suc (2 * i)
 two_at i h = shl_whole 2 2 (2 * i) 32 (lit< tt) (omega arith) ∙ omega arith
 
+-- both bits of butterfly i of those from `base` on
+pub pushed_two :
+    (s : ℕ → Bool) (base i w : ℕ) (x y : Bool) (u v : ℕ) → i < 16 → w ≡ number_at s (2 * base) (2 * i) → x ≡ s (2 * (base + i)) → y ≡ s (2 * (base + i) + 1) →
+    u ≡ cond x ((1 * 2 ^ (2 * i)) % 2 ^ 32) 0 → v ≡ cond y ((2 * 2 ^ (2 * i)) % 2 ^ 32) 0 → w + (u + v) ≡ number_at s (2 * base) (2 * (i + 1))
+pushed_two s base i w x y u v few e is_x is_y is_u is_v =
+    let end : 2 * (i + 1) ≡ suc (suc (2 * i)) = omega arith in
+    let place : 2 * (base + i) ≡ 2 * base + 2 * i = omega arith in
+    let place_1 : 2 * (base + i) + 1 ≡ 2 * base + suc (2 * i) = omega arith in
+    let pushed = number_push s (2 * base) (2 * i) w x e (is_x ∙ ap s place) in
+    let sum : w + (u + v) ≡ w + cond x (2 ^ (2 * i)) 0 + cond y (2 ^ suc (2 * i)) 0 = rw (is_u, is_v, one_at i few, two_at i few) (omega arith) in
+    rw end (sum ∙ number_push s (2 * base) (suc (2 * i)) _ y pushed (is_y ∙ ap s place_1))
+
 pub power_room : (i : ℕ) → i < 16 → 4 * 2 ^ (2 * i) ≤ 2 ^ 32
 power_room i h =
     let rest = 30 - 2 * i in

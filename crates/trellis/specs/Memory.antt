@@ -6,7 +6,7 @@ use Rattle.codebits.specs.Bits.{number_at}
 use Rattle.costs.specs.Kind.{Kind}
 use Rattle.costs.specs.declared.Observation.{Observation}
 use Rattle.costs.specs.declared.Observation.TheVariants.{Sure}
-use Rattle.nearest.specs.Trellis.{takes, stepped}
+use Rattle.nearest.specs.Trellis.{takes}
 
 -- how many states there are, and so how many costs a bank has
 abbrev pub state_count : ℕ
@@ -28,14 +28,10 @@ word_of took = number_at took 0 state_count
 abbrev pub observed_at : List Observation → ℕ → Observation
 observed_at observed j = slice_index_or observed j (Sure false)
 
--- From one memory to the other only the places of the states from lo to hi have changed, in the bank that begins at place `to`, and each of these states has its cost there.
-pub record Written {C : Type 0} (none : C) (cost : ℕ → C) (to lo hi : ℕ) (old new : List C) : Type 0 where
-  pub here : (s : ℕ) → lo ≤ s → s < hi → slice_index_or new (to + s) none ≡ cost s
-  pub elsewhere : (i : ℕ) → (i < to + lo) ⊎ (to + hi ≤ i) → slice_index_or new i none ≡ slice_index_or old i none
-
--- what a step leaves: from the bank that begins at place `from`, the costs of all states are written to the bank at `to`
-abbrev pub Stepping : {O C : Type 0} → Kind O C → O → O → Bool → ℕ → ℕ → List C → List C → Type 0
-Stepping kind a b is_free from to old new = Written kind.nothing (stepped kind a b is_free (cost_in kind old from)) to 0 state_count old new
+-- From one bank to the other only the states from lo to hi have changed, and each of these has its cost there.
+pub record Written {C : Type 0} (none : C) (cost : ℕ → C) (lo hi : ℕ) (old new : List C) : Type 0 where
+  pub here : (s : ℕ) → lo ≤ s → s < hi → slice_index_or new s none ≡ cost s
+  pub elsewhere : (s : ℕ) → (s < lo) ⊎ (hi ≤ s) → slice_index_or new s none ≡ slice_index_or old s none
 
 -- the word of the step
 abbrev pub step_word : {O C : Type 0} → Kind O C → O → O → Bool → ℕ → List C → ℕ

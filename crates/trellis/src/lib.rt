@@ -9,24 +9,14 @@ ghost use Rattle.trellis.specs.Frame.{BlocksRunTheTrellis};
 ghost use Rattle.trellis.specs.Memory.{state_count};
 ghost use Rattle.trellis.specs.Trace.{psdu_after};
 
+use codebits::{BLOCK_BITS, BLOCK_CODE_BITS, block_count};
 use costs::{CostKind, Observation};
 
 mod back;
 mod butterfly;
 mod steps;
 
-// The message bits of a block, and its code bits.
-const BLOCK_BITS: usize = 88;
-
-pub const BLOCK_CODE_BITS: usize = 176;
-
-// The zeros that end a message.
-const TAIL_BITS: usize = 6;
-
-// How many states there are, and so how many costs a bank has.
-const STATES: usize = 64;
-
-// Runs the trellis over the observed code bits of a block. The costs go from bank one to bank two and back, so that they end in bank one.
+// Runs the trellis over the observed code bits of a block.
 pub fn run_block<K: CostKind>(
     observed: &[Observation; BLOCK_CODE_BITS],
     block: usize,
@@ -38,34 +28,20 @@ pub fn run_block<K: CostKind>(
     ensures memory { (costs.new ≡ costs_after K.CostKind.kind observed.now octets block costs.old) × (words.new ≡ words_after K.CostKind.kind observed.now octets block costs.old words.old) }
 {
     let first = BLOCK_BITS * block;
-    steps::begin(block, costs);
-    steps::run(
-        observed,
-        first,
-        octets,
-        costs,
-        &mut words[first..first + BLOCK_BITS],
-    );
-}
-
-// The bits of the message of a PSDU: whole blocks.
-fn message_length(octets: usize) -> usize
-    requires { octets ≤ longest_psdu }
-    ensures { result ≡ message_length octets }
-{
-    BLOCK_BITS * ((8 * octets + TAIL_BITS + BLOCK_BITS - 1) / BLOCK_BITS)
+    let words = &mut words[first..first + BLOCK_BITS];
+    steps::run(observed, block, octets as u16, costs, words);
 }
 
 // Writes the PSDU that the words trace back from state zero, whatever they hold.
+// The octets are written by index: after `rev` over octets that are lent to be written a proof knows only their number.
 pub fn trace(words: &[u64], octets: usize, psdu: &mut [u8])
     requires { (message_length octets ≤ length words.now) × ((octets ≤ length psdu.old) × (octets ≤ longest_psdu)) }
     ensures memory { psdu.new ≡ psdu_after octets words.now psdu.old }
 {
-    let mut state = back::settle(words, 8 * octets, message_length(octets));
+    let end = BLOCK_BITS * block_count(octets as u16) as usize;
+    let mut state = back::settle(words, 8 * octets, end);
     for i in (0..octets).rev() {
-        let (value, earlier) = back::octet(words, i, state);
-        psdu[i] = value;
-        state = earlier;
+        (psdu[i], state) = back::octet(words, i, state);
     }
 }
 

@@ -1,52 +1,63 @@
 // The 88 steps of a block, from bank to bank.
-ghost use Rattle.std.specs.Prelude.{◌≡◌, ◌*◌, ◌^◌, ◌<◌, ◌≤◌, ◌++◌, length, drop};
-ghost use Rattle.codebits.specs.Message.{block_bits, block_code_bits};
-ghost use Rattle.nearest.specs.Messages.{longest_psdu};
+ghost use Rattle.std.specs.Prelude.{◌≡◌, ℕ, ◌*◌, ◌^◌, ◌<◌, ◌≤◌, length};
+ghost use Rattle.codebits.specs.Message.{block_bits};
 ghost use Rattle.nearest.specs.Trellis.{free};
-ghost use Rattle.trellis.specs.Block.{start_of, banks, block_words};
-ghost use Rattle.trellis.specs.Memory.{state_count, cost_in, observed_at, Written};
+ghost use Rattle.trellis.specs.Block.{start_of, costs_after, block_words};
+ghost use Rattle.trellis.specs.Memory.{state_count, cost_in, observed_at};
 
-use crate::butterfly::{back, forth};
-use crate::{BLOCK_BITS, STATES, TAIL_BITS};
+use crate::butterfly::{Section, step};
+use codebits::{BLOCK_BITS, BLOCK_CODE_BITS, TAIL_BITS};
 use costs::{CostKind, Observation};
 
+// How many states there are, and so how many costs a bank has.
+const STATES: usize = 64;
+
 // Whether the bit that step k drops is one of the PSDU's: that of place k - 6.
-fn is_free(k: usize, octets: usize) -> bool
-    requires { octets ≤ longest_psdu }
+fn is_free(k: usize, octets: u16) -> bool
     ensures { result ≡ free (8 * octets) k }
 {
-    k >= TAIL_BITS && k < 8 * octets + TAIL_BITS
+    (TAIL_BITS..8 * usize::from(octets) + TAIL_BITS).contains(&k)
 }
 
 // Before the first block of a frame every state costs nothing.
-pub fn begin<K: CostKind>(block: usize, costs: &mut [K])
-    requires { state_count ≤ length costs.old }
-    ensures { Written K.CostKind.kind.nothing (start_of K.CostKind.kind block costs.old) 0 0 state_count costs.old costs.new }
+fn begin<K: CostKind>(block: usize, one: &mut [K])
+    ensures { (s : ℕ) → s < length one.old → cost_in K.CostKind.kind one.new 0 s ≡ start_of K.CostKind.kind block one.old s }
 {
     if block == 0 {
-        for s in 0..STATES {
-            costs[s] = K::nothing();
+        for cost in one.iter_mut() {
+            *cost = K::nothing();
         }
     }
 }
 
-// The steps of a block, of which the first is step `first` of the frame. Even ones go from bank one to bank two, odd ones back.
+// The steps of block number `block` of a frame. Even ones go from bank one to bank two, odd ones back, so that the costs end in bank one.
 pub fn run<K: CostKind>(
-    observed: &[Observation],
-    first: usize,
-    octets: usize,
+    observed: &[Observation; BLOCK_CODE_BITS],
+    block: usize,
+    octets: u16,
     costs: &mut [K],
     words: &mut [u64],
 )
-    requires { (length observed.now ≡ block_code_bits) × ((first < 2 ^ 32) × ((octets ≤ longest_psdu) × ((2 * state_count ≤ length costs.old) × (length words.old ≡ block_bits)))) }
-    ensures costs { costs.new ≡ banks K.CostKind.kind (observed_at observed.now) (8 * octets) first (cost_in K.CostKind.kind costs.old 0) ++ drop (2 * state_count) costs.old }
-    ensures words { words.new ≡ block_words K.CostKind.kind (observed_at observed.now) (8 * octets) first (cost_in K.CostKind.kind costs.old 0) }
+    requires block { block_bits * block < 2 ^ 32 }
+    requires costs { 2 * state_count ≤ length costs.old }
+    requires words { length words.old ≡ block_bits }
+    ensures costs { costs.new ≡ costs_after K.CostKind.kind observed.now octets block costs.old }
+    ensures words { words.new ≡ block_words K.CostKind.kind (observed_at observed.now) (8 * octets) (block_bits * block) (start_of K.CostKind.kind block costs.old) }
 {
-    for pair in 0..BLOCK_BITS / 2 {
-        let k = 2 * pair;
-        let even = is_free(first + k, octets);
-        words[k] = forth(costs, even, observed[2 * k], observed[2 * k + 1]);
-        let odd = is_free(first + k + 1, octets);
-        words[k + 1] = back(costs, odd, observed[2 * k + 2], observed[2 * k + 3]);
+    let first = BLOCK_BITS * block;
+    let (one, rest) = costs.split_at_mut(STATES);
+    let (two, _rest) = rest.split_at_mut(STATES);
+    begin(block, one);
+    for (k, word) in words.iter_mut().enumerate() {
+        let section = Section {
+            free: is_free(first + k, octets),
+            first: observed[2 * k],
+            second: observed[2 * k + 1],
+        };
+        *word = if k % 2 == 0 {
+            step(one, two, section)
+        } else {
+            step(two, one, section)
+        };
     }
 }

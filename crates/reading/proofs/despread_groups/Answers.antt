@@ -1,21 +1,16 @@
 use Rattle.std.proofs.Common.{◌≡◌, ℕ, ◌<◌, false, ◌≢◌, length, Ok, Err, sym, ◌∙◌, arith, get_or-set_other, get_or-set_same, below_more}
 use Rattle.std.proofs.lemmas.List.FromFn.{fill_by_all}
 use Rattle.frames.specs.Heard.{heard}
-use Rattle.reading.proofs.Cuts.{whole_good, group_end, group_read}
+use Rattle.reading.proofs.Cuts.{whole_good, group_read}
 use Rattle.reading.proofs.despread_groups.Goals as goal
 
-pub slice_bounds-despread-end : goal.slice_bounds-despread-end
-slice_bounds-despread-end g c =
-    group_end (g.L.LineCode.code c.args.line.now) c.args.first (length c.args.values.now) c.chips_per_group-count.result c.args.chips.now
-    c.chips_per_group-count.ensures _ (sym c.judge.ensures ∙ c.in_ok-judge.was) c.loop-j.j c.loop-j-test.true
-
-pub returns-in_err-values : goal.returns-in_err-values
-returns-in_err-values g c =
+pub returns-in_err-value : goal.returns-in_err-value
+returns-in_err-value g c =
     let k = g.L.LineCode.code c.args.line.now in
     let read = group_read k c.args.first (length c.args.values.now) c.chips_per_group-count.result c.args.chips.now
     c.chips_per_group-count.ensures _ (sym c.judge.ensures ∙ c.in_ok-judge.was) c.loop-j.j c.loop-j-test.true in
-    let clash : Err c.in_err-values.field-0.0 ≡ Ok (heard k c.args.first c.args.chips.now c.loop-j.j) =
-    sym c.in_err-values.was ∙ c.despread.ensures.answer ∙ read in
+    let clash : Err c.in_err-value.field-0.0 ≡ Ok (heard k c.args.first c.args.chips.now c.loop-j.j) =
+    sym c.in_err-value.was ∙ c.despread.ensures.answer ∙ read in
     let z : ◌≡◌ {A = ℕ} 0 1 = cc clash in
     absurd (omega arith)
 
@@ -26,9 +21,9 @@ loop-j-preserved g c =
     let j = c.loop-j.j in
     let read = group_read k c.args.first (length c.args.values.now) c.chips_per_group-count.result c.args.chips.now
     c.chips_per_group-count.ensures _ (sym c.judge.ensures ∙ c.in_ok-judge.was) j c.loop-j-test.true in
-    let same : Ok c.in_ok-values.field-0 ≡ Ok (heard k c.args.first c.args.chips.now j) =
-    sym c.in_ok-values.was ∙ c.despread.ensures.answer ∙ read in
-    let here : c.in_ok-values.field-0 ≡ heard k c.args.first c.args.chips.now j = cc same in
+    let same : Ok c.in_ok-value.field-0 ≡ Ok (heard k c.args.first c.args.chips.now j) =
+    sym c.in_ok-value.was ∙ c.despread.ensures.answer ∙ read in
+    let here : c.in_ok-value.field-0 ≡ heard k c.args.first c.args.chips.now j = cc same in
     let lt : j < length vs = omega arith in
     below_more _ _
     (λ i h. let ne : i ≢ j = omega arith in rw get_or-set_other (c.loop-j.invariant i h))

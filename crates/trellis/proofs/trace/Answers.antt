@@ -15,14 +15,14 @@ loop-i-preserved c =
     let n = message_length c.args.octets in
     let i = c.loop-i.i - 1 in
     let psdu = c.loop-i.psdu in
-    let value = c.octet-value.result.0 in
+    let value = c.octet.result.0 in
     let end : 8 * c.loop-i.i ≡ 8 * i + 8 = omega arith in
     let inside : i < length psdu = omega arith in
     let below : i < c.args.octets = omega arith in
-    let comes : ComesTo words n 0 (8 * i + 8) c.loop-i.state = rw end at c.loop-i.invariant.0 in (
-      comes_join words n 0 (8 * i + 8) c.loop-i.state (8 * i) _ (omega arith) comes c.octet-value.ensures.state,
+    let comes : ComesTo words n 0 (8 * i + 8) c.loop-i.state.number = rw end at c.loop-i.invariant.0 in (
+      comes_join words n 0 (8 * i + 8) c.loop-i.state.number (8 * i) _ (omega arith) comes c.octet.ensures.state,
       λ t a b. elim (cases_eq t i) [
-        | inl e ↦ rw e (get_or-set_same psdu i value 0 inside ∙ octet_left words n 0 i c.loop-i.state value comes c.octet-value.ensures.answer)
+        | inl e ↦ rw e (get_or-set_same psdu i value 0 inside ∙ octet_left words n 0 i c.loop-i.state.number value comes c.octet.ensures.answer)
         | inr ne ↦ get_or-set_other psdu i t value 0 ne ∙ c.loop-i.invariant.1 t (omega arith) b
       ],
       drop-set-lt c.args.octets psdu i value below ∙ c.loop-i.invariant.2,

@@ -1,7 +1,7 @@
--- The trace has come back to place k.
-use Rattle.std.proofs.Common.{◌≤◌}
+-- The trace has come back by as many places as words were read.
+use Rattle.std.proofs.Common.{◌+◌, ◌-◌, ◌≤◌, length}
 use Rattle.trellis.specs.Trace.{ComesTo}
 use Rattle.trellis.proofs.back.settle.Given as goal
 
-abbrev pub invariant-loop-k : goal.invariant-loop-k
-invariant-loop-k l = (l.start ≤ l.k) × ComesTo l.words l.end 0 l.k l.state
+abbrev pub invariant-loop-word : goal.invariant-loop-word
+invariant-loop-word l = (l.start + length l.yielded ≤ l.end) × ComesTo l.words l.end 0 (l.end - length l.yielded) l.state.number

@@ -7,6 +7,6 @@ use Rattle.trellis.proofs.butterfly.half.Given as goal
 
 abbrev pub invariant-loop-i : goal.invariant-loop-i
 invariant-loop-i g l =
-    Written g.K.CostKind.kind.nothing (stepped g.K.CostKind.kind l.a l.b l.free (cost_in g.K.CostKind.kind l.initial.costs l.from))
-    l.to (2 * l.base) (2 * (l.base + l.i)) l.initial.costs l.costs
-    × (l.word ≡ number_at (takes g.K.CostKind.kind l.a l.b l.free (cost_in g.K.CostKind.kind l.initial.costs l.from)) (2 * l.base) (2 * l.i))
+    Written g.K.CostKind.kind.nothing (stepped g.K.CostKind.kind l.section.first l.section.second l.section.free (cost_in g.K.CostKind.kind l.from 0))
+    (2 * l.base) (2 * (l.base + l.i)) l.initial.to l.to
+    × (l.word ≡ number_at (takes g.K.CostKind.kind l.section.first l.section.second l.section.free (cost_in g.K.CostKind.kind l.from 0)) (2 * l.base) (2 * l.i))

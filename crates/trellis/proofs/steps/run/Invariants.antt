@@ -1,9 +1,13 @@
--- The memory stands as it does after the steps so far.
-use Rattle.std.proofs.Common.{◌*◌}
-use Rattle.trellis.specs.Memory.{cost_in, observed_at}
+-- The banks stand as they do after the steps so far: after an even number of them bank one has the latest costs, after an odd one bank two.
+use Rattle.std.proofs.Common.{◌≡◌, ◌*◌, ◌%◌}
+use Rattle.trellis.specs.Block.{start_of}
+use Rattle.trellis.specs.Memory.{observed_at}
 use Rattle.trellis.proofs.Running.{Running}
 use Rattle.trellis.proofs.steps.run.Given as goal
 
-abbrev pub invariant-loop-pair : goal.invariant-loop-pair
-invariant-loop-pair g l =
-    Running g.K.CostKind.kind (observed_at l.observed) (8 * l.octets) l.first (cost_in g.K.CostKind.kind l.initial.costs 0) (2 * l.pair) l.initial.costs l.costs l.words
+abbrev pub invariant-loop-k : goal.invariant-loop-k
+invariant-loop-k g l =
+    let kind = g.K.CostKind.kind in
+    let start = start_of kind l.block l.fn.costs in
+    (l.k % 2 ≡ 0 → Running kind (observed_at l.observed) (8 * l.octets) l.first start l.k l.one l.two l.words)
+    × (l.k % 2 ≡ 1 → Running kind (observed_at l.observed) (8 * l.octets) l.first start l.k l.two l.one l.words)
