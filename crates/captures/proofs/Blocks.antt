@@ -5,6 +5,7 @@ use native.Mathlib.Nat.{mod-eq-sub-div-mul}
 use Rattle.std.specs.List.{prefix_len}
 use Rattle.std.proofs.lemmas.Nat.{div-mul-add}
 use Rattle.std.proofs.lemmas.List.{length-take-le}
+use Rattle.std.proofs.lemmas.List.Folds.{prefix_len-append}
 use Rattle.std.proofs.lemmas.List.Sums.{prefix_len-le-length}
 use Rattle.std.proofs.lemmas.Bool.{cond-true, cond-false, eq-eqb, ne_eqb, le-leb, lt-leb, cases_Bool, eqb-true, eqb-false}
 use Rattle.faults.specs.declared.Fault.{Fault}
@@ -15,11 +16,18 @@ use Rattle.linecode.specs.Chips.{is_chip, judged}
 use Rattle.linecode.specs.Judging.{judged_bad, judged_good}
 use Rattle.captures.specs.Sections.{refuse}
 use Rattle.captures.specs.Chips.{good_chips, Good, blocks_of}
-use Rattle.captures.proofs.Leading.{leading_on, leading_stop}
 
 pub good_none : (size : ℕ) (octets : List ℕ) → Good size 0 octets
 unfolding good_chips
 good_none size octets = let z : 0 ≡ 0 * size = omega arith in ap (λ i. prefix_len is_chip (take i octets)) (sym z) ∙ z
+
+-- so many chips are there
+pub good_fits : (size n : ℕ) (octets : List ℕ) → Good size n octets → n * size ≤ length octets
+unfolding good_chips
+good_fits size n octets g =
+    let few = prefix_len-le-length is_chip (take (n * size) octets) in
+    let most = length-take (n * size) octets in
+    omega (arith, g)
 
 pub all_good : (size n : ℕ) (octets : List ℕ) → Good size n octets → blocks_of size n octets ≡ Ok (take (n * size) octets)
 unfolding blocks_of
@@ -36,7 +44,7 @@ module _ (size b : ℕ) (octets : List ℕ) (g : Good size b octets) where
       let most = prefix_len-le-length is_chip front in
       let long = length-take (b * size) octets in
       let is : length front ≡ b * size = omega (arith, g) in
-      ap (prefix_len is_chip) cut ∙ (leading_on is_chip front back (g ∙ sym is) ∙ ap (λ i. i + prefix_len is_chip back) is)
+      ap (prefix_len is_chip) cut ∙ (prefix_len-append is_chip front back ∙ (cond-true _ _ _ (eq-eqb _ _ (g ∙ sym is)) ∙ ap (λ i. i + prefix_len is_chip back) is))
 
   module _ (n : ℕ) (lt : b < n) where
     abbrev rest : List ℕ
@@ -81,7 +89,7 @@ module _ (size b : ℕ) (octets : List ℕ) (g : Good size b octets) where
       unfolding good_chips
       bad_at h =
           let left = length-drop (b * size) octets in
-          let same = ap (prefix_len is_chip) (first (n - suc b)) ∙ leading_stop is_chip (take size rest) (take ((n - suc b) * size) (drop size rest)) (omega (arith, long)) in
+          let same = ap (prefix_len is_chip) (first (n - suc b)) ∙ (prefix_len-append is_chip (take size rest) (take ((n - suc b) * size) (drop size rest)) ∙ cond-false _ _ _ (ne_eqb (prefix_len is_chip (take size rest)) (length (take size rest)) (λ e. omega (arith, long)))) in
           ends _ h same ∙ cond-true _ _ _ (le-leb ((b + 1) * size) (length octets) (omega (arith, end_of)))
 
       good_at : prefix_len is_chip (take size rest) ≡ size → Good size (b + 1) octets

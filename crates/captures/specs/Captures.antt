@@ -11,18 +11,16 @@ use Rattle.bands.specs.Numbers.{mode_number}
 use Rattle.codebits.specs.Message.{blocks}
 use Rattle.frames.specs.Sent.{Frame, block_chips}
 use Rattle.costs.specs.Kinds.{count_kind, graded_kind}
-use Rattle.costs.specs.declared.Count.{Count}
-use Rattle.costs.specs.declared.Graded.{Graded}
 use Rattle.header.specs.Headers.{header_length}
 use Rattle.header.specs.Reading.{Fields, read_answer}
 use Rattle.captures.specs.declared.cost.Cost.{Cost}
-use Rattle.captures.specs.declared.cost.Cost.TheVariants.{Count as CountOf, Graded as GradedOf}
-use Rattle.captures.specs.declared.decoding.Outcome.{Outcome}
+use Rattle.captures.specs.declared.outcome.Outcome.{Outcome}
 use Rattle.captures.specs.declared.settings.CostChoice.{CostChoice}
 use Rattle.captures.specs.declared.settings.CostChoice.TheVariants.{Count as ByCount, Graded as ByGraded}
 use Rattle.captures.specs.declared.settings.Settings.{Settings}
 use Rattle.captures.specs.Sections.{bind, refuse, settings_of, section_start, section_of}
 use Rattle.captures.specs.Decoding.{decoded}
+use Rattle.captures.specs.Costs.{told_count, told_graded, told_by}
 use Rattle.captures.specs.Lines.{frame_lines, refused_line}
 
 -- the most octets that the bench takes
@@ -38,19 +36,10 @@ code_or None = straight
 abbrev pub frame_after : Fields → Frame
 frame_after f = record { code = code_or (psdu_line f.band f.mode); differential = psdu_differential f.band f.mode; last = f.last; octets = f.length }
 
--- a cost as a line tells it
-abbrev pub counted : Result (Count × List ℕ) Fault → Result (Cost × List ℕ) Fault
-counted (Ok p) = Ok (CountOf p.0.differing, p.1)
-counted (Err e) = Err e
-
-abbrev pub graded : Result (Graded × List ℕ) Fault → Result (Cost × List ℕ) Fault
-graded (Ok p) = Ok (GradedOf p.0.sure p.0.doubtful, p.1)
-graded (Err e) = Err e
-
 -- the cost and the PSDU, by the cost that the settings name
 abbrev pub decoded_as : CostChoice → Frame → List ℕ → Result (Cost × List ℕ) Fault
-decoded_as ByCount f octets = counted (decoded count_kind f octets)
-decoded_as ByGraded f octets = graded (decoded graded_kind f octets)
+decoded_as ByCount f octets = told_by told_count (decoded count_kind f octets)
+decoded_as ByGraded f octets = told_by told_graded (decoded graded_kind f octets)
 
 -- What an accepted capture tells: mode and length, cost and PSDU.
 pub record Verdict : Type 0 where
@@ -89,7 +78,3 @@ report_of capture = lines_of (verdict_of capture)
 abbrev pub verdict_in : Result Outcome Fault → List ℕ → Result Verdict Fault
 verdict_in (Ok o) room = Ok (record { mode = o.mode; octets = o.length; cost = o.cost; psdu = take o.length room })
 verdict_in (Err e) room = Err e
-
-abbrev pub told_as : ℕ → Result Cost Fault → List ℕ → Result (Cost × List ℕ) Fault
-told_as L (Ok c) room = Ok (c, take L room)
-told_as L (Err e) room = Err e

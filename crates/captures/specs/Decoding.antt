@@ -1,21 +1,19 @@
 -- What is decoded from the octets of section 3.
 -- Assumes nothing.
-use Rattle.std.specs.Prelude.{◌≡◌, ℕ, zero, suc, List, map, length, take, Ok, Err, Result}
-use Rattle.std.specs.List.{range_with_len}
+use Rattle.std.specs.Prelude.{◌≡◌, ℕ, List, length, take, Ok, Err, Result}
 use Rattle.faults.specs.declared.Fault.{Fault}
 use Rattle.linecode.specs.Codes.{Code}
 use Rattle.codebits.specs.Message.{blocks}
-use Rattle.linecode.specs.Chips.{part}
 use Rattle.frames.specs.Sent.{Frame, block_chips}
 use Rattle.costs.specs.Kind.{Kind}
 use Rattle.costs.specs.declared.Observation.{Observation}
 use Rattle.header.specs.declared.model.Header.{Header}
 use Rattle.nearest.specs.Path.{traced_psdu, traced_psdu_cost}
 use Rattle.reading.specs.Frames.{frame_seen}
-use Rattle.receiver.specs.Receiver.{frame_of}
-use Rattle.receiver.specs.Runs.{within, Calls, start, begin, block, State, after}
-use Rattle.receiver.specs.Book.{Entries, book}
-use Rattle.receiver.specs.declared.states.OpenFrame.{OpenFrame}
+use Rattle.receiver.specs.Runs.{within, start, State, after}
+use Rattle.receiver.specs.Book.{book}
+use Rattle.receiver.specs.Open.{Open}
+use Rattle.promise.specs.Parts.{part_calls, page}
 use Rattle.captures.specs.Sections.{bind}
 use Rattle.captures.specs.Chips.{Good, blocks_of}
 
@@ -40,21 +38,12 @@ abbrev pub heard_answer : Result (List ℕ) Fault → Result (Unit {0}) Fault
 heard_answer (Ok chips) = Ok tt
 heard_answer (Err e) = Err e
 
--- the calls that hand the first n blocks of the octets to a receiver
-abbrev pub heard_calls : Header → (k : Code) → List ℕ → ℕ → Calls (within k)
-heard_calls h k octets zero = begin start h k
-heard_calls h k octets (suc n) = block (heard_calls h k octets n) (part (block_chips k) octets n)
-
 -- an open frame with its memory
-abbrev pub state_of : {C : Type 0} (k : Code) → OpenFrame → List C → List ℕ → State C (within k)
-state_of k f costs words = record { receiver = frame_of f; costs = costs; words = words }
-
--- the book after the first n blocks
-abbrev pub page : Header → Code → List ℕ → ℕ → Entries
-page h k octets n = record { header = h; blocks = map (part (block_chips k) octets) (range_with_len 0 n) }
+abbrev pub state_of : {C : Type 0} (k : Code) → Open → List C → List ℕ → State C (within k)
+state_of k f costs words = record { receiver = f; costs = costs; words = words }
 
 -- The first n blocks of the octets were handed to a receiver, and each was accepted.
 pub record Heard {C : Type 0} (kind : Kind Observation C) (k : Code) (h : Header) (costs : List C) (words octets : List ℕ) (n : ℕ) (s : State C (within k)) : Type 0 where
-  pub state : s ≡ after kind costs words (heard_calls h k octets n)
+  pub state : s ≡ after kind costs words (part_calls start h k octets n)
   pub good : Good (block_chips k) n octets
-  pub booked : book (length costs) (length words) (heard_calls h k octets n) ≡ page h k octets n
+  pub booked : book (length costs) (length words) (part_calls start h k octets n) ≡ page h k octets n

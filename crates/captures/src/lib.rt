@@ -4,6 +4,7 @@
 mod cost;
 mod decoding;
 mod lines;
+mod outcome;
 mod reports;
 mod sections;
 mod settings;

@@ -1,6 +1,6 @@
 // The lines that are printed of a capture.
-ghost use Rattle.std.specs.Prelude.{◌≡◌, ◌<◌, cond, [], ◌∷◌, ◌++◌, IfOk, Some, string_bytes, OnOk};
-ghost use Rattle.captures.specs.Lines.{hex_digit, hex_of, cost_text, head_lines, frame_lines, refused_line};
+ghost use Rattle.std.specs.Prelude.{◌≡◌, IfOk, Some, string_bytes};
+ghost use Rattle.captures.specs.Lines.{cost_text, frame_lines, refused_line};
 
 use crate::cost::Cost;
 use faults::Fault;
@@ -19,37 +19,6 @@ impl fmt::Display for Cost {
     }
 }
 
-fn hex_digit(n: u8) -> char
-    requires { n < 16 }
-    ensures value { result ≡ hex_digit n }
-    ensures bound { result < 128 }
-{
-    if n < 10 {
-        char::from(48 + n)
-    } else {
-        char::from(87 + n)
-    }
-}
-
-// An octet's two digits, at the end of `text`.
-fn push_octet(text: &mut String, octet: u8) -> Result<(), AllocError>
-    ensures { OnOk result (string_bytes text.new ≡ string_bytes text.old ++ hex_of (octet ∷ [])) }
-{
-    text.push(hex_digit(octet / 16))?;
-    text.push(hex_digit(octet % 16))?;
-    Ok(())
-}
-
-// Two lower-case digits for each octet, at the end of `text`.
-fn push_hex(text: &mut String, octets: &[u8]) -> Result<(), AllocError>
-    ensures { OnOk result (string_bytes text.new ≡ string_bytes text.old ++ hex_of octets.now) }
-{
-    for octet in octets {
-        push_octet(text, *octet)?;
-    }
-    Ok(())
-}
-
 // The line of a refused capture.
 pub fn refused_line(heap: Global, fault: Fault) -> Result<String, AllocError>
     ensures answer { IfOk result (λ s. string_bytes s ≡ refused_line fault) }
@@ -57,13 +26,6 @@ pub fn refused_line(heap: Global, fault: Fault) -> Result<String, AllocError>
     let number = fault.kind.number();
     let place = fault.place;
     format!(in heap; "refused {number} {place}\n")
-}
-
-// The first two lines of three.
-fn head_lines(heap: Global, mode: u8, psdu_length: u16, cost: Cost) -> Result<String, AllocError>
-    ensures { IfOk result (λ s. string_bytes s ≡ head_lines mode psdu_length cost) }
-{
-    format!(in heap; "frame {mode} {psdu_length}\ncost {cost}\n")
 }
 
 // The three lines of an accepted capture.
@@ -76,8 +38,6 @@ pub fn frame_lines(
 ) -> Result<String, AllocError>
     ensures answer { IfOk result (λ s. string_bytes s ≡ frame_lines mode psdu_length cost psdu.now) }
 {
-    let mut text = head_lines(heap, mode, psdu_length, cost)?;
-    push_hex(&mut text, psdu)?;
-    text.push_str("\n")?;
-    Ok(text)
+    let digits = hex::encode(heap, psdu)?;
+    format!(in heap; "frame {mode} {psdu_length}\ncost {cost}\n{digits}\n")
 }

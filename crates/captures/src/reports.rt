@@ -1,32 +1,33 @@
 // The report on a capture.
-ghost use Rattle.std.specs.Prelude.{◌≡◌, ◌≤◌, length, IfOk, string_bytes};
+ghost use Rattle.std.specs.Prelude.{◌≡◌, IfOk, string_bytes};
 ghost use Rattle.header.specs.View.{view};
-ghost use Rattle.captures.specs.Captures.{longest, psdu_part, frame_part, header_part, verdict_of, verdict_in, report_of};
+ghost use Rattle.captures.specs.Captures.{frame_part, header_part, verdict_of, verdict_in, report_of};
 
-use crate::decoding::{Outcome, block_count, decode_as};
+use crate::decoding::decode_as;
 use crate::lines::{frame_lines, refused_line};
+use crate::outcome::{LONGEST, Outcome};
 use crate::sections::{section, section_start};
-use crate::settings::{CostChoice, Settings, refusal, settings_section};
-use faults::{Fault, FaultKind};
+use crate::settings::{CostChoice, Settings, settings_section};
+use codebits::block_count;
+use faults::{Fault, FaultKind, Layer};
 use header::{Header, header_chips, read_header};
 use sender::block_chips;
 use std::alloc::{AllocError, Global};
 
-// The most octets of a PSDU that the bench takes.
-const LONGEST: usize = 255;
-
-// Section 3 after its header.
-fn read_psdu(
+// Section 3, unless the header tells of a PSDU that is too long.
+// Here and below, what is left of the capture and the buffer stay two parameters: each part hands on less of the one and all of the other.
+fn read_frame(
     choice: CostChoice,
     header: Header,
     input: &[u8],
-    psdu: &mut [u8],
+    psdu: &mut [u8; LONGEST],
 ) -> Result<Outcome, Fault>
-    requires memory { ((view header).length ≤ longest) × (longest ≤ length psdu.old) }
-    ensures answer { verdict_in result psdu.new ≡ psdu_part choice (view header) input.now }
-    ensures short { IfOk result (λ o. o.length ≤ longest) }
+    ensures answer { verdict_in result psdu.new ≡ frame_part choice input.now (view header) }
 {
     let length = header.length();
+    if length as usize > LONGEST {
+        return Err(Layer::Bench.refusal(FaultKind::BenchLength, length as usize));
+    }
     let needed = block_count(length) * block_chips(&header.line()) as u32;
     let octets = section_start(input, 3, needed)?;
     let cost = decode_as(choice, header, octets, psdu)?;
@@ -37,29 +38,13 @@ fn read_psdu(
     })
 }
 
-// Section 3, unless the header tells of a PSDU that is too long.
-fn read_frame(
-    choice: CostChoice,
-    header: Header,
-    input: &[u8],
-    psdu: &mut [u8],
-) -> Result<Outcome, Fault>
-    requires memory { longest ≤ length psdu.old }
-    ensures answer { verdict_in result psdu.new ≡ frame_part choice input.now (view header) }
-    ensures short { IfOk result (λ o. o.length ≤ longest) }
-{
-    let length = header.length() as usize;
-    if length > LONGEST {
-        return Err(refusal(FaultKind::BenchLength, length));
-    }
-    read_psdu(choice, header, input, psdu)
-}
-
 // Section 2, and what follows.
-fn read_sections(settings: Settings, input: &[u8], psdu: &mut [u8]) -> Result<Outcome, Fault>
-    requires memory { longest ≤ length psdu.old }
+fn read_sections(
+    settings: Settings,
+    input: &[u8],
+    psdu: &mut [u8; LONGEST],
+) -> Result<Outcome, Fault>
     ensures answer { verdict_in result psdu.new ≡ header_part settings input.now }
-    ensures short { IfOk result (λ o. o.length ≤ longest) }
 {
     let needed = header_chips(settings.band);
     let (chips, rest) = section(input, 2, needed as u32)?;
@@ -68,10 +53,8 @@ fn read_sections(settings: Settings, input: &[u8], psdu: &mut [u8]) -> Result<Ou
 }
 
 // The whole capture: the PSDU is written to the start of the buffer.
-fn read_capture(capture: &[u8], psdu: &mut [u8]) -> Result<Outcome, Fault>
-    requires memory { longest ≤ length psdu.old }
+fn read_capture(capture: &[u8], psdu: &mut [u8; LONGEST]) -> Result<Outcome, Fault>
     ensures answer { verdict_in result psdu.new ≡ verdict_of capture.now }
-    ensures short { IfOk result (λ o. o.length ≤ longest) }
 {
     let (settings, rest) = settings_section(capture)?;
     read_sections(settings, rest, psdu)
@@ -81,6 +64,7 @@ fn read_capture(capture: &[u8], psdu: &mut [u8]) -> Result<Outcome, Fault>
 pub fn report(heap: Global, capture: &[u8]) -> Result<String, AllocError>
     ensures answer { IfOk result (λ s. string_bytes s ≡ report_of capture.now) }
 {
+    // A close writes to the start of a buffer, so that the PSDU's length is told beside it.
     let mut psdu = [0; LONGEST];
     match read_capture(capture, &mut psdu) {
         Ok(told) => frame_lines(

@@ -1,6 +1,5 @@
 // Section 1: the letters of the band and of the cost.
-ghost use Rattle.std.specs.Prelude.{◌≡◌};
-ghost use Rattle.faults.specs.Refusals.{fault};
+ghost use Rattle.std.specs.Prelude.{◌≡◌, ℕ, Option};
 ghost use Rattle.captures.specs.Letters.{band_of, choice_of};
 ghost use Rattle.captures.specs.Sections.{exactly, octet_by, count_two, settings_of, seen_rest, seen};
 
@@ -8,48 +7,49 @@ use bands::Band;
 use faults::{Fault, FaultKind, Layer};
 
 // Which cost the PSDU is decoded by.
-#[derive(Clone, Copy)]
+#[derive(Clone, Copy, PartialEq, Eq, Debug)]
 pub enum CostChoice {
     Count,
     Graded,
 }
 
-#[derive(Clone, Copy)]
+#[derive(Clone, Copy, PartialEq, Eq, Debug)]
 pub struct Settings {
     pub band: Band,
     pub cost: CostChoice,
 }
 
-fn band_letter(octet: u8) -> Option<Band>
-    ensures { result ≡ band_of octet }
-{
-    match char::from(octet) {
-        'A' => Some(Band::Mhz780),
-        'B' => Some(Band::Mhz868),
-        'C' => Some(Band::Mhz915),
-        'D' => Some(Band::Mhz2450),
-        _ => None,
+// What a letter of section 1 stands for.
+trait Lettered: Copy {
+    ghost meant: { ℕ → Option Self };
+
+    fn by_letter(octet: u8) -> Option<Self>
+        ensures { result ≡ meant octet };
+}
+
+impl Lettered for Band {
+    ghost meant = { band_of };
+
+    fn by_letter(octet: u8) -> Option<Band> {
+        match char::from(octet) {
+            'A' => Some(Band::Mhz780),
+            'B' => Some(Band::Mhz868),
+            'C' => Some(Band::Mhz915),
+            'D' => Some(Band::Mhz2450),
+            _ => None,
+        }
     }
 }
 
-fn cost_letter(octet: u8) -> Option<CostChoice>
-    ensures { result ≡ choice_of octet }
-{
-    match char::from(octet) {
-        'p' => Some(CostChoice::Count),
-        'g' => Some(CostChoice::Graded),
-        _ => None,
-    }
-}
+impl Lettered for CostChoice {
+    ghost meant = { choice_of };
 
-// A refusal by the bench itself.
-pub(crate) fn refusal(kind: FaultKind, place: usize) -> Fault
-    ensures { result ≡ fault kind place Layer.Bench }
-{
-    Fault {
-        kind,
-        place,
-        layer: Layer::Bench,
+    fn by_letter(octet: u8) -> Option<CostChoice> {
+        match char::from(octet) {
+            'p' => Some(CostChoice::Count),
+            'g' => Some(CostChoice::Graded),
+            _ => None,
+        }
     }
 }
 
@@ -58,41 +58,29 @@ fn exact(input: &[u8], value: u8, place: usize) -> Result<&[u8], Fault>
     ensures { seen_rest result ≡ exactly value place input.now }
 {
     let Some((first, rest)) = input.split_first() else {
-        return Err(refusal(FaultKind::Section, 1));
+        return Err(Layer::Bench.refusal(FaultKind::Section, 1));
     };
     if *first != value {
-        return Err(refusal(FaultKind::Settings, place));
+        return Err(Layer::Bench.refusal(FaultKind::Settings, place));
     }
     Ok(rest)
 }
 
-// The band by its letter, and what follows.
-fn band_octet(input: &[u8], place: usize) -> Result<(Band, &[u8]), Fault>
-    ensures { seen result ≡ octet_by band_of place input.now }
+// What the letter at a place of section 1 stands for, and what follows it.
+fn letter<T: Lettered>(input: &[u8], place: usize) -> Result<(T, &[u8]), Fault>
+    ensures { seen result ≡ octet_by T.Lettered.meant place input.now }
 {
     let Some((first, rest)) = input.split_first() else {
-        return Err(refusal(FaultKind::Section, 1));
+        return Err(Layer::Bench.refusal(FaultKind::Section, 1));
     };
-    match band_letter(*first) {
-        Some(band) => Ok((band, rest)),
-        None => Err(refusal(FaultKind::Settings, place)),
-    }
-}
-
-// The cost by its letter, and what follows.
-fn cost_octet(input: &[u8], place: usize) -> Result<(CostChoice, &[u8]), Fault>
-    ensures { seen result ≡ octet_by choice_of place input.now }
-{
-    let Some((first, rest)) = input.split_first() else {
-        return Err(refusal(FaultKind::Section, 1));
-    };
-    match cost_letter(*first) {
-        Some(cost) => Ok((cost, rest)),
-        None => Err(refusal(FaultKind::Settings, place)),
+    match T::by_letter(*first) {
+        Some(meant) => Ok((meant, rest)),
+        None => Err(Layer::Bench.refusal(FaultKind::Settings, place)),
     }
 }
 
 // What follows the count of section 1, which is 2.
+// Four calls are as short as a loop over the octets and their places, and show both.
 fn count_two(input: &[u8]) -> Result<&[u8], Fault>
     ensures { seen_rest result ≡ count_two input.now }
 {
@@ -107,7 +95,7 @@ pub fn settings_section(input: &[u8]) -> Result<(Settings, &[u8]), Fault>
     ensures answer { seen result ≡ settings_of input.now }
 {
     let rest = count_two(input)?;
-    let (band, rest) = band_octet(rest, 4)?;
-    let (cost, rest) = cost_octet(rest, 5)?;
+    let (band, rest) = letter(rest, 4)?;
+    let (cost, rest) = letter(rest, 5)?;
     Ok((Settings { band, cost }, rest))
 }

@@ -1,4 +1,5 @@
 pub mod Sent
+pub mod Parts
 pub mod Clean
 pub mod Chain
 pub mod Whole

@@ -1,6 +1,6 @@
 -- A PSDU that is received as it was sent comes back, at a cost of nothing.
 -- Assumes nothing.
-use Rattle.std.specs.Prelude.{◌≡◌, ℕ, zero, suc, ◌<◌, ◌≤◌, List, ◌++◌, length, drop, Ok}
+use Rattle.std.specs.Prelude.{◌≡◌, ℕ, ◌<◌, ◌≤◌, List, ◌++◌, length, drop, Ok}
 use Rattle.linecode.specs.Codes.{Code, Lawful}
 use Rattle.codebits.specs.Message.{IsPsdu, blocks, message_length}
 use Rattle.linecode.specs.Chips.{part}
@@ -9,7 +9,8 @@ use Rattle.costs.specs.Kind.{Kind}
 use Rattle.costs.specs.declared.Observation.{Observation}
 use Rattle.header.specs.declared.model.Header.{Header}
 use Rattle.receiver.specs.Receiver.{octets, frame_by, block_step, close_step}
-use Rattle.receiver.specs.Runs.{listening, within, Calls, begin, block, after}
+use Rattle.receiver.specs.Runs.{listening, within, Calls, after}
+use Rattle.promise.specs.Parts.{part_calls}
 
 -- block n of the chips that are sent for a PSDU after a header, by a line code
 abbrev pub sent_block : Header → Code → List ℕ → ℕ → List ℕ
@@ -17,8 +18,7 @@ sent_block h k q n = part (block_chips k) (sent_chips (frame_by k h) q) n
 
 -- from a listening receiver: begin, and the first n blocks as they were sent
 abbrev pub sent_calls : Calls listening → Header → (k : Code) → List ℕ → ℕ → Calls (within k)
-sent_calls earlier h k q zero = begin earlier h k
-sent_calls earlier h k q (suc n) = block (sent_calls earlier h k q n) (sent_block h k q n)
+sent_calls earlier h k q n = part_calls earlier h k (sent_chips (frame_by k h) q) n
 
 -- Each block is accepted, and so is the close, which returns the PSDU at a cost of nothing.
 pub record ComesBack {C : Type 0} (kind : Kind Observation C) (costs : List C) (words : List ℕ) (earlier : Calls listening) (h : Header) (k : Code) (q room : List ℕ) : Type 0 where

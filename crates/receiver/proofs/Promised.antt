@@ -49,7 +49,7 @@ module _ {C : Type 0} (kind : Kind Observation C) (runs : BlocksRunTheTrellis ki
       ap (λ (h : Header). block_judged k (octets h) s.receiver.accepted (length s.costs) (length s.words) chips) a.header
       ∙ (ap (λ (n : ℕ). block_judged k (octets b.header) n (length s.costs) (length s.words) chips) a.count ∙ same_judgement cs b chips)
 
-  closed_by_book : (cs : Calls (within k)) (room : ℕ) → let s = after kind costs words cs in let b = book (length costs) (length words) cs in
+  pub closed_by_book : (cs : Calls (within k)) (room : ℕ) → let s = after kind costs words cs in let b = book (length costs) (length words) cs in
       close_judged (octets s.receiver.header) s.receiver.accepted (length s.costs) (length s.words) room ≡ close_judged (octets b.header) (length b.blocks) (length costs) (length words) room
   closed_by_book cs room =
       let s = after kind costs words cs in

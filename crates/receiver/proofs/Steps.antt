@@ -31,18 +31,10 @@ read_told : (j : Result (Unit {0}) Fault) (last x : Observation) → unless_refu
 read_told (Ok u) last x e = (refl, cc)
 read_told (Err f) last x e = let z : ◌≡◌ {A = ℕ} 0 1 = cc in absurd (omega arith)
 
-read_refused : (j : Result (Unit {0}) Fault) (last : Observation) (f : Fault) → unless_refused j last ≡ Err f → j ≡ Err f
-read_refused (Ok u) last f e = let z : ◌≡◌ {A = ℕ} 0 1 = cc in absurd (omega arith)
-read_refused (Err g) last f e = cc
-
 module _ {C : Type 0} (kind : Kind Observation C) (k : Code) (f : Open) (costs : List C) (words chips : List ℕ) (u : Unit {0})
     (room : room_judged (octets f.header) f.accepted (length costs) (length words) (Ok tt) ≡ Ok u)
   where
-    step_by : (j : Result (Unit {0}) Fault) → judged Frame (block_chips k) chips ≡ j → block_step kind k f costs words chips ≡ block_by kind k f costs words chips j
-    step_by j e = ap (block_by kind k f costs words chips) (room_goes_on (octets f.header) f.accepted (length costs) (length words) u room (judged Frame (block_chips k) chips) ∙ e)
-
     pub accepted_step : (x : Observation) → read_answer k (position k f) chips ≡ Ok x → (block_step kind k f costs words chips ≡ block_by kind k f costs words chips (Ok tt)) × (x ≡ last_seen k (position k f) chips)
-    accepted_step x e = let told = read_told (judged Frame (block_chips k) chips) (last_seen k (position k f) chips) x e in (step_by (Ok tt) told.0, told.1)
-
-    pub refused_step : (y : Fault) → read_answer k (position k f) chips ≡ Err y → block_step kind k f costs words chips ≡ block_by kind k f costs words chips (Err y)
-    refused_step y e = step_by (Err y) (read_refused (judged Frame (block_chips k) chips) (last_seen k (position k f) chips) y e)
+    accepted_step x e =
+        let told = read_told (judged Frame (block_chips k) chips) (last_seen k (position k f) chips) x e in
+        (ap (block_by kind k f costs words chips) (room_goes_on (octets f.header) f.accepted (length costs) (length words) u room (judged Frame (block_chips k) chips) ∙ told.0), told.1)

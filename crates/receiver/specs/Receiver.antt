@@ -17,7 +17,7 @@ use Rattle.trellis.specs.Memory.{cost_in}
 use Rattle.trellis.specs.Block.{costs_after, words_after}
 use Rattle.trellis.specs.Trace.{psdu_after}
 use Rattle.receiver.specs.Judging.{block_judged, close_judged}
-use Rattle.receiver.specs.declared.states.OpenFrame.{OpenFrame}
+pub use Rattle.receiver.specs.Open.{Open}
 
 -- what a header says of its frame: the octets of the PSDU, and whether its bits are coded differentially
 abbrev pub octets : Header → ℕ
@@ -29,15 +29,6 @@ differential h = psdu_differential (view h).band (view h).mode
 -- how a PSDU is sent after a header, by a line code
 abbrev pub frame_by : Code → Header → Frame
 frame_by k h = record { code = k; differential = differential h; last = (view h).last; octets = octets h }
-
--- An open frame: its header, how many blocks it has accepted, and what is observed of the last encoded bit before the next one.
-pub record Open : Type 0 where
-  pub header : Header
-  pub accepted : ℕ
-  pub last : Observation
-
-abbrev pub frame_of : OpenFrame → Open
-frame_of f = record { header = f.header; accepted = f.accepted; last = f.last }
 
 -- begin: the header's last bit is sure
 abbrev pub begun : Header → Open

@@ -5,4 +5,4 @@ mod promise;
 mod states;
 
 pub use promise::{accepted_closes_are_nearest, the_book_tells_every_refusal};
-pub use states::{Listening, OpenFrame, Ticket};
+pub use states::{COSTS, Listening, OpenFrame, Ticket};

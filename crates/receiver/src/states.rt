@@ -1,12 +1,12 @@
 // The states of a receiver, as types. No state can be copied or let go.
-ghost use Rattle.std.specs.Prelude.{◌≤◌};
-ghost use Rattle.codebits.specs.Message.{blocks};
-ghost use Rattle.header.specs.View.{view};
-
 use costs::Observation;
 use header::Header;
+use std::marker::Model;
 
 mod calls;
+
+// The costs that a device lends: two banks of one for each of the 64 states.
+pub const COSTS: usize = 128;
 
 // A receiver between frames.
 pub struct Listening {
@@ -20,7 +20,19 @@ pub struct OpenFrame {
     accepted: u32,
     // what is observed of the last encoded bit before the next block
     last: Observation,
-    ghost room: { accepted ≤ blocks (view header).length },
+}
+
+// It never has more blocks than its header tells of.
+impl Model for OpenFrame {
+    ghost use Rattle.receiver.specs.Open.{Open};
+
+    ghost Value = { Open };
+
+    ghost use Rattle.receiver.specs.Inside.{open_of, HasRoom};
+
+    ghost view = { open_of };
+
+    ghost invariant = { HasRoom };
 }
 
 // What an open frame owes: a close or an abandon takes it back.

@@ -1,12 +1,12 @@
 -- A capture as long as the longest is judged by itself, whatever follows it.
 -- Assumes nothing.
-use Rattle.std.proofs.Common.{◌≡◌, ℕ, ◌+◌, ◌*◌, ◌/◌, ◌%◌, ◌<◌, ◌≤◌, Bool, true, false, cond, ◌&&◌, eqb, ltb, leb, ◌⊎◌, List, [], ◌∷◌, ◌++◌, length, take, drop, Some, None, Ok, Err, Option, Result, sym, refl, ap, ◌∙◌, inl, inr, ⊎_elim, mul-le-mul_right, div-lt_iff_lt-mul, mul-le-mul, arith, lit<, lit≤, length-append, length-drop, length-take}
+use Rattle.std.proofs.Common.{◌≡◌, ℕ, ◌+◌, ◌*◌, ◌/◌, ◌%◌, ◌<◌, ◌≤◌, Bool, true, false, cond, ◌&&◌, eqb, ltb, leb, List, [], ◌∷◌, ◌++◌, length, take, drop, Some, None, Ok, Err, Option, Result, sym, refl, ap, ◌∙◌, ⊎_elim, mul-le-mul_right, div-lt_iff_lt-mul, mul-le-mul, arith, lit<, lit≤, length-append, length-drop, length-take}
 use Rattle.std.specs.List.{prefix_len}
 use Rattle.std.proofs.lemmas.List.{take-append-le, drop-append-le, get_or_append_left}
 use Rattle.std.proofs.lemmas.List.Sums.{prefix_len-le-length}
 use Rattle.std.proofs.lemmas.Bool.{cases_Bool, cond-true, cond-false, le-leb, eqb-false, ltb-false}
 use Rattle.faults.specs.declared.Fault.{Fault}
-use Rattle.faults.specs.declared.FaultKind.TheVariants.{Settings as WrongSettings, ChipValue, Section}
+use Rattle.faults.specs.declared.FaultKind.TheVariants.{ChipValue, Section}
 use Rattle.faults.specs.declared.Layer.TheVariants.{Frame as FrameLayer, Bench}
 use Rattle.faults.specs.Refusals.{fault}
 use Rattle.linecode.specs.Chips.{is_chip}
@@ -25,78 +25,52 @@ use Rattle.captures.specs.declared.settings.CostChoice.{CostChoice}
 use Rattle.captures.specs.declared.settings.CostChoice.TheVariants.{Count as ByCount, Graded as ByGraded}
 use Rattle.captures.specs.declared.settings.Settings.{Settings}
 use Rattle.captures.specs.Letters.{band_of, choice_of}
-use Rattle.captures.specs.Sections.{bind, refuse, stands_for, exactly, octet_by, count_two, count_of, settings_of, section_start, whole_of}
+use Rattle.captures.specs.Sections.{bind, refuse, stands_for, exactly, octet_by, count_two, count_of, section_start, whole_of}
 use Rattle.captures.specs.Chips.{good_chips, blocks_of}
 use Rattle.captures.specs.Decoding.{chips_for, decided_by}
-use Rattle.captures.specs.Captures.{longest, code_or, frame_after, counted, graded, decoded_as, Verdict, psdu_part, frame_part, header_part, verdict_of, lines_of}
+use Rattle.captures.specs.Costs.{told_count, told_graded, told_by}
+use Rattle.captures.specs.Captures.{longest, code_or, frame_after, decoded_as, Verdict, psdu_part, frame_part, header_part, verdict_of, lines_of}
 use Rattle.verdicts.specs.Unread.{NothingReadBehind}
 
--- Section 1 goes by its six octets: with any octets behind them it is read the same, or refused by the same fault.
-module _ (a b c d : ℕ) where
-  abbrev one : Bool → List ℕ → Result (List ℕ) Fault
-  one t ys = bind (cond t (Ok (b ∷ c ∷ d ∷ ys)) (refuse WrongSettings 0)) (λ bs1. bind (exactly 0 1 bs1) (λ bs2. bind (exactly 0 2 bs2) (λ bs3. exactly 0 3 bs3)))
+-- A part of a capture reads the same with any octets behind it, if what follows it does: a check of an octet, and a letter.
+through : {Y : Type 0} (t : Bool) (x : Fault) (us bs : List ℕ) (next : List ℕ → Result Y Fault) → next us ≡ next bs → bind (cond t (Ok us) (Err x)) next ≡ bind (cond t (Ok bs) (Err x)) next
+through true x us bs next e = e
+through false x us bs next e = refl
 
-  abbrev two : Bool → List ℕ → Result (List ℕ) Fault
-  two t ys = bind (cond t (Ok (c ∷ d ∷ ys)) (refuse WrongSettings 1)) (λ bs2. bind (exactly 0 2 bs2) (λ bs3. exactly 0 3 bs3))
+checked : {X Y : Type 0} (t : Bool) (x : Fault) (us bs : List ℕ) (part : List ℕ → Result X Fault) (next : X → Result Y Fault) →
+    bind (part us) next ≡ bind (part bs) next → bind (bind (cond t (Ok us) (Err x)) part) next ≡ bind (bind (cond t (Ok bs) (Err x)) part) next
+checked true x us bs part next e = e
+checked false x us bs part next e = refl
 
-  abbrev three : Bool → List ℕ → Result (List ℕ) Fault
-  three t ys = bind (cond t (Ok (d ∷ ys)) (refuse WrongSettings 2)) (λ bs3. exactly 0 3 bs3)
+lettered : {L X Y : Type 0} (o : Option L) (place : ℕ) (us bs : List ℕ) (part : L × List ℕ → Result X Fault) (next : X → Result Y Fault) →
+    ((l : L) → bind (part (l, us)) next ≡ bind (part (l, bs)) next) → bind (bind (stands_for o place us) part) next ≡ bind (bind (stands_for o place bs) part) next
+lettered (Some l) place us bs part next e = e l
+lettered None place us bs part next e = refl
 
-  abbrev last : Bool → List ℕ → Result (List ℕ) Fault
-  last t ys = cond t (Ok ys) (refuse WrongSettings 3)
+-- parts handed on one after the other
+bound : {X Y Z : Type 0} (r : Result X Fault) (next : X → Result Y Fault) (last : Y → Result Z Fault) → bind (bind r next) last ≡ bind r (λ x. bind (next x) last)
+bound (Ok x) next last = refl
+bound (Err e) next last = refl
 
-  abbrev Counted : Type 0
-  Counted = ((ys : List ℕ) → count_two (a ∷ b ∷ c ∷ d ∷ ys) ≡ Ok ys) ⊎ ((x : Fault) × ((ys : List ℕ) → count_two (a ∷ b ∷ c ∷ d ∷ ys) ≡ Err x))
+-- section 1 goes by its six octets
+module _ (a b c d e f : ℕ) (us bs : List ℕ) (same : (s : Settings) → header_part s us ≡ header_part s bs) where
+  counted_same : {Y : Type 0} (next : List ℕ → Result Y Fault) → next (e ∷ f ∷ us) ≡ next (e ∷ f ∷ bs) → bind (count_two (a ∷ b ∷ c ∷ d ∷ e ∷ f ∷ us)) next ≡ bind (count_two (a ∷ b ∷ c ∷ d ∷ e ∷ f ∷ bs)) next
+  counted_same next is =
+      checked (eqb a 2) _ _ _ (λ bs1. bind (exactly 0 1 bs1) (λ bs2. bind (exactly 0 2 bs2) (λ bs3. exactly 0 3 bs3))) next
+      (checked (eqb b 0) _ _ _ (λ bs2. bind (exactly 0 2 bs2) (λ bs3. exactly 0 3 bs3)) next
+      (checked (eqb c 0) _ _ _ (λ bs3. exactly 0 3 bs3) next
+      (through (eqb d 0) _ _ _ next is)))
 
-  counted_two : Counted
-  counted_two =
-      ⊎_elim
-      (λ (p : eqb a 2 ≡ true).
-      ⊎_elim
-      (λ (q : eqb b 0 ≡ true).
-      ⊎_elim
-      (λ (r : eqb c 0 ≡ true).
-      ⊎_elim
-      (λ (s : eqb d 0 ≡ true). inl (λ ys. ap (λ t. one t ys) p ∙ (ap (λ t. two t ys) q ∙ (ap (λ t. three t ys) r ∙ ap (λ t. last t ys) s))))
-      (λ (s : eqb d 0 ≡ false). inr (fault WrongSettings 3 Bench, (λ ys. ap (λ t. one t ys) p ∙ (ap (λ t. two t ys) q ∙ (ap (λ t. three t ys) r ∙ ap (λ t. last t ys) s)))))
-      (cases_Bool (eqb d 0)))
-      (λ (r : eqb c 0 ≡ false). inr (fault WrongSettings 2 Bench, (λ ys. ap (λ t. one t ys) p ∙ (ap (λ t. two t ys) q ∙ ap (λ t. three t ys) r))))
-      (cases_Bool (eqb c 0)))
-      (λ (q : eqb b 0 ≡ false). inr (fault WrongSettings 1 Bench, (λ ys. ap (λ t. one t ys) p ∙ ap (λ t. two t ys) q)))
-      (cases_Bool (eqb b 0)))
-      (λ (p : eqb a 2 ≡ false). inr (fault WrongSettings 0 Bench, (λ ys. ap (λ t. one t ys) p)))
-      (cases_Bool (eqb a 2))
-
-  module _ (e f : ℕ) where
-    abbrev lettered : Result (List ℕ) Fault → Result (Settings × List ℕ) Fault
-    lettered r = bind r (λ bs4. bind (octet_by band_of 4 bs4) (λ x. bind (octet_by choice_of 5 x.1) (λ k. Ok (record { band = x.0; cost = k.0 }, k.1))))
-
-    abbrev banded : Option Band → List ℕ → Result (Settings × List ℕ) Fault
-    banded o ys = bind (stands_for o 4 (f ∷ ys)) (λ x. bind (octet_by choice_of 5 x.1) (λ k. Ok (record { band = x.0; cost = k.0 }, k.1)))
-
-    abbrev costed : Band → Option CostChoice → List ℕ → Result (Settings × List ℕ) Fault
-    costed x o ys = bind (stands_for o 5 ys) (λ k. Ok (record { band = x; cost = k.0 }, k.1))
-
-    abbrev Six : Type 0
-    Six =
-        ((s : Settings) × ((ys : List ℕ) → settings_of (a ∷ b ∷ c ∷ d ∷ e ∷ f ∷ ys) ≡ Ok (s, ys)))
-        ⊎ ((x : Fault) × ((ys : List ℕ) → settings_of (a ∷ b ∷ c ∷ d ∷ e ∷ f ∷ ys) ≡ Err x))
-
-    module _ (ok : (ys : List ℕ) → count_two (a ∷ b ∷ c ∷ d ∷ ys) ≡ Ok ys) where
-      by_cost : (x : Band) → band_of e ≡ Some x → (o : Option CostChoice) → choice_of f ≡ o → Six
-      by_cost x is (Some k) ic = inl (record { band = x; cost = k }, (λ ys. ap lettered (ok (e ∷ f ∷ ys)) ∙ (ap (λ o. banded o ys) is ∙ ap (λ o. costed x o ys) ic)))
-      by_cost x is None ic = inr (fault WrongSettings 5 Bench, (λ ys. ap lettered (ok (e ∷ f ∷ ys)) ∙ (ap (λ o. banded o ys) is ∙ ap (λ o. costed x o ys) ic)))
-
-      by_band : (o : Option Band) → band_of e ≡ o → Six
-      by_band (Some x) is = by_cost x is (choice_of f) refl
-      by_band None is = inr (fault WrongSettings 4 Bench, (λ ys. ap lettered (ok (e ∷ f ∷ ys)) ∙ ap (λ o. banded o ys) is))
-
-    six : Six
-    six =
-        ⊎_elim
-        (λ (ok : (ys : List ℕ) → count_two (a ∷ b ∷ c ∷ d ∷ ys) ≡ Ok ys). by_band ok (band_of e) refl)
-        (λ (no : (x : Fault) × ((ys : List ℕ) → count_two (a ∷ b ∷ c ∷ d ∷ ys) ≡ Err x)). inr (no.0, (λ ys. ap lettered (no.1 (e ∷ f ∷ ys)))))
-        counted_two
+  six_same : verdict_of (a ∷ b ∷ c ∷ d ∷ e ∷ f ∷ us) ≡ verdict_of (a ∷ b ∷ c ∷ d ∷ e ∷ f ∷ bs)
+  six_same =
+      let costed : Band → CostChoice × List ℕ → Result (Settings × List ℕ) Fault = λ x k. Ok (record { band = x; cost = k.0 }, k.1) in
+      let banded : Band × List ℕ → Result (Settings × List ℕ) Fault = λ x. bind (octet_by choice_of 5 x.1) (costed x.0) in
+      let letters : List ℕ → Result (Settings × List ℕ) Fault = λ bs4. bind (octet_by band_of 4 bs4) banded in
+      let rest : Settings × List ℕ → Result Verdict Fault = λ s. header_part s.0 s.1 in
+      let both = lettered (band_of e) 4 (f ∷ us) (f ∷ bs) banded rest (λ x. lettered (choice_of f) 5 us bs (costed x) rest (λ k. same (record { band = x; cost = k }))) in
+      bound (count_two (a ∷ b ∷ c ∷ d ∷ e ∷ f ∷ us)) letters rest
+      ∙ (counted_same (λ bs4. bind (letters bs4) rest) both
+      ∙ sym (bound (count_two (a ∷ b ∷ c ∷ d ∷ e ∷ f ∷ bs)) letters rest))
 
 -- the count of a section
 start_same : (number n : ℕ) (ys more : List ℕ) → 4 ≤ length ys →
@@ -114,21 +88,12 @@ start_same number n ys more four =
     ap (λ t. cond t (Ok (drop 4 (ys ++ more))) (refuse Section number)) test
     ∙ ap (λ (zs : List ℕ). cond (leb 4 (length ys) && eqb (count_of ys) n) (Ok zs) (refuse Section number)) (drop-append-le 4 ys more four)
 
-through : {Y : Type 0} (t : Bool) (x : Fault) (us bs : List ℕ) (next : List ℕ → Result Y Fault) → next us ≡ next bs → bind (cond t (Ok us) (Err x)) next ≡ bind (cond t (Ok bs) (Err x)) next
-through true x us bs next e = e
-through false x us bs next e = refl
-
 -- what follows a section's count
 section_same : {Y : Type 0} (number n : ℕ) (ys more : List ℕ) (next : List ℕ → Result Y Fault) → 4 ≤ length ys → next (drop 4 ys ++ more) ≡ next (drop 4 ys) →
     bind (section_start number n (ys ++ more)) next ≡ bind (section_start number n ys) next
 section_same number n ys more next four e =
     ap (λ r. bind r next) (start_same number n ys more four)
     ∙ through (leb 4 (length ys) && eqb (count_of ys) n) (fault Section number Bench) (drop 4 ys ++ more) (drop 4 ys) next e
-
--- parts handed on one after the other
-bound : {X Y Z : Type 0} (r : Result X Fault) (next : X → Result Y Fault) (last : Y → Result Z Fault) → bind (bind r next) last ≡ bind r (λ x. bind (next x) last)
-bound (Ok x) next last = refl
-bound (Err e) next last = refl
 
 -- the block that an octet of n blocks stands in is one of them
 whole_block : (size n i : ℕ) → 0 < size → i < n * size → (i / size + 1) * size ≤ n * size
@@ -157,19 +122,23 @@ blocks_same size n zs more some fits =
     ∙ sym (cond-false _ _ _ no ∙ cond-true _ _ _ (le-leb ((good / size + 1) * size) (length zs) (omega arith)))))
     (cases_Bool (eqb good (n * size)))
 
-sizes : (b : Band) (m : RateMode) → (0 < block_chips (code_or (psdu_line b m))) × (block_chips (code_or (psdu_line b m)) ≤ 5632)
-sizes Mhz780 Mode0 = (lit< tt, lit≤ tt)
-sizes Mhz780 Mode1 = (lit< tt, lit≤ tt)
-sizes Mhz780 Mode2 = (lit< tt, lit≤ tt)
-sizes Mhz780 Mode3 = (lit< tt, lit≤ tt)
+abbrev Fits : Band → RateMode → Type 0
+Fits b m = (0 < block_chips (code_or (psdu_line b m))) × (block_chips (code_or (psdu_line b m)) ≤ 5632)
+
+-- the two bands of 1000 kchip/s have the same line codes
+thousand_fits : (m : RateMode) → Fits Mhz780 m
+thousand_fits Mode0 = (lit< tt, lit≤ tt)
+thousand_fits Mode1 = (lit< tt, lit≤ tt)
+thousand_fits Mode2 = (lit< tt, lit≤ tt)
+thousand_fits Mode3 = (lit< tt, lit≤ tt)
+
+sizes : (b : Band) (m : RateMode) → Fits b m
+sizes Mhz780 m = thousand_fits m
+sizes Mhz915 m = thousand_fits m
 sizes Mhz868 Mode0 = (lit< tt, lit≤ tt)
 sizes Mhz868 Mode1 = (lit< tt, lit≤ tt)
 sizes Mhz868 Mode2 = (lit< tt, lit≤ tt)
 sizes Mhz868 Mode3 = (lit< tt, lit≤ tt)
-sizes Mhz915 Mode0 = (lit< tt, lit≤ tt)
-sizes Mhz915 Mode1 = (lit< tt, lit≤ tt)
-sizes Mhz915 Mode2 = (lit< tt, lit≤ tt)
-sizes Mhz915 Mode3 = (lit< tt, lit≤ tt)
 sizes Mhz2450 Mode0 = (lit< tt, lit≤ tt)
 sizes Mhz2450 Mode1 = (lit< tt, lit≤ tt)
 sizes Mhz2450 Mode2 = (lit< tt, lit≤ tt)
@@ -196,8 +165,8 @@ module _ (choice : CostChoice) (f : Fields) (ys more : List ℕ) (long : 4 + 24 
       blocks_same (block_chips frame.code) (blocks f.length) zs more s.0 (omega (arith, length-drop 4 ys))
 
   decoded_same : (c : CostChoice) → f.length ≤ longest → decoded_as c frame (zs ++ more) ≡ decoded_as c frame zs
-  decoded_same ByCount short = ap (λ r. counted (bind r (decided_by count_kind frame))) (chips_same short)
-  decoded_same ByGraded short = ap (λ r. graded (bind r (decided_by graded_kind frame))) (chips_same short)
+  decoded_same ByCount short = ap (λ r. told_by told_count (bind r (decided_by count_kind frame))) (chips_same short)
+  decoded_same ByGraded short = ap (λ r. told_by told_graded (bind r (decided_by graded_kind frame))) (chips_same short)
 
   psdu_same : f.length ≤ longest → psdu_part choice f (ys ++ more) ≡ psdu_part choice f ys
   psdu_same short =
@@ -235,14 +204,6 @@ header_same s ys more long =
     ∙ (section_same 2 n ys more (λ octets. bind (whole_of 2 n octets) next) (omega arith) same
     ∙ sym (bound (section_start 2 n ys) (whole_of 2 n) next))
 
-by_six : (a b c d e f : ℕ) (ys more : List ℕ) → 4 + 11264 + 4 + 24 * 5632 ≤ length ys → verdict_of (a ∷ b ∷ c ∷ d ∷ e ∷ f ∷ (ys ++ more)) ≡ verdict_of (a ∷ b ∷ c ∷ d ∷ e ∷ f ∷ ys)
-by_six a b c d e f ys more long =
-    let rest : Result (Settings × List ℕ) Fault → Result Verdict Fault = λ r. bind r (λ s. header_part s.0 s.1) in
-    ⊎_elim
-    (λ (ok : (s : Settings) × ((zs : List ℕ) → settings_of (a ∷ b ∷ c ∷ d ∷ e ∷ f ∷ zs) ≡ Ok (s, zs))). ap rest (ok.1 (ys ++ more)) ∙ (header_same ok.0 ys more long ∙ sym (ap rest (ok.1 ys))))
-    (λ (no : (x : Fault) × ((zs : List ℕ) → settings_of (a ∷ b ∷ c ∷ d ∷ e ∷ f ∷ zs) ≡ Err x)). ap rest (no.1 (ys ++ more)) ∙ sym (ap rest (no.1 ys)))
-    (six a b c d e f)
-
 pub nothing_read_behind : NothingReadBehind
 nothing_read_behind [] more long = absurd (omega arith)
 nothing_read_behind (a ∷ []) more long = absurd (omega arith)
@@ -250,4 +211,4 @@ nothing_read_behind (a ∷ b ∷ []) more long = absurd (omega arith)
 nothing_read_behind (a ∷ b ∷ c ∷ []) more long = absurd (omega arith)
 nothing_read_behind (a ∷ b ∷ c ∷ d ∷ []) more long = absurd (omega arith)
 nothing_read_behind (a ∷ b ∷ c ∷ d ∷ e ∷ []) more long = absurd (omega arith)
-nothing_read_behind (a ∷ b ∷ c ∷ d ∷ e ∷ f ∷ ys) more long = ap lines_of (by_six a b c d e f ys more (omega arith))
+nothing_read_behind (a ∷ b ∷ c ∷ d ∷ e ∷ f ∷ ys) more long = ap lines_of (six_same a b c d e f (ys ++ more) ys (λ s. header_same s ys more (omega arith)))

@@ -44,21 +44,22 @@ use Rattle.captures.specs.declared.settings.CostChoice.TheVariants.{Count as ByC
 use Rattle.captures.specs.Sections.{bind, count_of, settings_of, section_start, whole_of, section_of}
 use Rattle.captures.specs.Chips.{good_chips}
 use Rattle.captures.specs.Decoding.{chips_for, decided_by, decoded}
-use Rattle.captures.specs.Captures.{longest, code_or, counted, graded, decoded_as, Verdict, psdu_part, frame_part, header_part, verdict_of, lines_of}
+use Rattle.captures.specs.Costs.{told_count, told_graded, told_by}
+use Rattle.captures.specs.Captures.{longest, code_or, decoded_as, Verdict, psdu_part, frame_part, header_part, verdict_of, lines_of}
 use Rattle.captures.proofs.Blocks.{all_good}
 use Rattle.captures.proofs.Found.{found}
 use Rattle.verdicts.specs.Clean.{count_octets, section_octets, band_letter, cost_letter, fields_sent, frame_sent, clean_capture, no_cost, CleanCapturesComeBack}
 
--- every line code that a header can name
+-- every line code that a header can name; the two bands of 1000 kchip/s have the same
+thousand_lawful : (m : RateMode) → Lawful (code_or (psdu_line Mhz780 m))
+thousand_lawful Mode0 = alternating_lawful _ _ (code_lawful Dsss16x1k0) (code_lawful Dsss16x1k1)
+thousand_lawful Mode1 = code_lawful Dsss16x4
+thousand_lawful Mode2 = whitened_lawful _ (code_lawful Dsss8x4)
+thousand_lawful Mode3 = whitened_lawful _ straight_lawful
+
 lawful_of : (b : Band) (m : RateMode) → Lawful (code_or (psdu_line b m))
-lawful_of Mhz780 Mode0 = alternating_lawful _ _ (code_lawful Dsss16x1k0) (code_lawful Dsss16x1k1)
-lawful_of Mhz780 Mode1 = code_lawful Dsss16x4
-lawful_of Mhz780 Mode2 = whitened_lawful _ (code_lawful Dsss8x4)
-lawful_of Mhz780 Mode3 = whitened_lawful _ straight_lawful
-lawful_of Mhz915 Mode0 = alternating_lawful _ _ (code_lawful Dsss16x1k0) (code_lawful Dsss16x1k1)
-lawful_of Mhz915 Mode1 = code_lawful Dsss16x4
-lawful_of Mhz915 Mode2 = whitened_lawful _ (code_lawful Dsss8x4)
-lawful_of Mhz915 Mode3 = whitened_lawful _ straight_lawful
+lawful_of Mhz780 m = thousand_lawful m
+lawful_of Mhz915 m = thousand_lawful m
 lawful_of Mhz868 Mode0 = whitened_lawful _ (code_lawful Dsss4x1)
 lawful_of Mhz868 Mode1 = whitened_lawful _ straight_lawful
 lawful_of Mhz868 Mode2 = straight_lawful
@@ -153,10 +154,10 @@ module _ (b : Band) (m : RateMode) (q : List ℕ) (short : length q ≤ 255) (iq
   as_back : (c : CostChoice) (more : List ℕ) → decoded_as c frame (sent ++ more) ≡ Ok (no_cost c, q)
   as_back ByCount more =
       let u = sent_unharmed frame lawful q within iq in
-      ap counted (decoded_back count_kind (traces_psdu count_kind count_laws (frame_seen frame sent) (length q) within) u.returned.by_count u.count_nothing more)
+      ap (told_by told_count) (decoded_back count_kind (traces_psdu count_kind count_laws (frame_seen frame sent) (length q) within) u.returned.by_count u.count_nothing more)
   as_back ByGraded more =
       let u = sent_unharmed frame lawful q within iq in
-      ap graded (decoded_back graded_kind (traces_psdu graded_kind graded_laws (frame_seen frame sent) (length q) within) u.returned.by_graded u.graded_nothing more)
+      ap (told_by told_graded) (decoded_back graded_kind (traces_psdu graded_kind graded_laws (frame_seen frame sent) (length q) within) u.returned.by_graded u.graded_nothing more)
 
   abbrev verdict : CostChoice → Verdict
   verdict c = record { mode = m; octets = length q; cost = no_cost c; psdu = q }

@@ -6,21 +6,24 @@ use Rattle.faults.specs.declared.Fault.{Fault}
 use Rattle.faults.specs.declared.FaultKind.TheVariants.{BenchLength}
 use Rattle.codebits.specs.Message.{blocks}
 use Rattle.frames.specs.Sent.{Frame, block_chips}
+use Rattle.costs.specs.Kind.{Kind, Laws, most_charges}
 use Rattle.costs.specs.Kinds.{count_kind, graded_kind}
+use Rattle.costs.specs.declared.Observation.{Observation}
 use Rattle.costs.specs.TwoKinds.{count_laws, graded_laws}
 use Rattle.header.specs.Headers.{header_length}
 use Rattle.header.specs.Reading.{Fields, read_answer}
+use Rattle.nearest.specs.Nearest.{NearestPsdu}
 use Rattle.nearest.specs.Path.{traced_psdu, traced_psdu_cost}
 use Rattle.nearest.proofs.Path.{traces_psdu}
 use Rattle.reading.specs.Frames.{frame_seen}
 use Rattle.captures.specs.declared.cost.Cost.{Cost}
-use Rattle.captures.specs.declared.cost.Cost.TheVariants.{Count as CountOf, Graded as GradedOf}
 use Rattle.captures.specs.declared.settings.CostChoice.{CostChoice}
 use Rattle.captures.specs.declared.settings.CostChoice.TheVariants.{Count as ByCount, Graded as ByGraded}
 use Rattle.captures.specs.declared.settings.Settings.{Settings}
 use Rattle.captures.specs.Sections.{bind, refuse, settings_of, section_start, section_of}
 use Rattle.captures.specs.Decoding.{chips_for, decided_by}
-use Rattle.captures.specs.Captures.{longest, frame_after, counted, graded, decoded_as, Verdict, psdu_part, frame_part, header_part}
+use Rattle.captures.specs.Costs.{told_count, told_graded, told_by}
+use Rattle.captures.specs.Captures.{longest, frame_after, decoded_as, Verdict, psdu_part, frame_part, header_part}
 use Rattle.verdicts.specs.Accepted.{NearestBy, Accepted, AcceptedNearest}
 
 -- what was handed on
@@ -46,28 +49,23 @@ abbrev Decided : CostChoice → Frame → List ℕ → Cost × List ℕ → Type
 Decided choice f octets d = (chips : List ℕ) × (chips_for f octets ≡ Ok chips) × NearestBy choice (frame_seen f chips) f.octets d.1 d.0
 
 module _ (f : Frame) (octets : List ℕ) (d : Cost × List ℕ) (short : f.octets ≤ 2047) where
-  by_count : (r : Result (List ℕ) Fault) → chips_for f octets ≡ r → counted (bind r (decided_by count_kind f)) ≡ Ok d → Decided ByCount f octets d
-  by_count (Ok chips) is ok =
-      let seen = frame_seen f chips in
-      let L = f.octets in
-      let got : Cost × List ℕ = (CountOf (traced_psdu_cost count_kind seen L).differing, traced_psdu count_kind seen L) in
-      let same : got ≡ d = cc in
-      (chips, is, subst (λ (x : Cost × List ℕ). NearestBy ByCount seen L x.1 x.0) same (traces_psdu count_kind count_laws seen L short))
-  by_count (Err e) is ok = let z : ◌≡◌ {A = ℕ} 0 1 = cc in absurd (omega arith)
-
-  by_graded : (r : Result (List ℕ) Fault) → chips_for f octets ≡ r → graded (bind r (decided_by graded_kind f)) ≡ Ok d → Decided ByGraded f octets d
-  by_graded (Ok chips) is ok =
-      let seen = frame_seen f chips in
-      let L = f.octets in
-      let cost = traced_psdu_cost graded_kind seen L in
-      let got : Cost × List ℕ = (GradedOf cost.sure cost.doubtful, traced_psdu graded_kind seen L) in
-      let same : got ≡ d = cc in
-      (chips, is, subst (λ (x : Cost × List ℕ). NearestBy ByGraded seen L x.1 x.0) same (traces_psdu graded_kind graded_laws seen L short))
-  by_graded (Err e) is ok = let z : ◌≡◌ {A = ℕ} 0 1 = cc in absurd (omega arith)
+  -- for a kind of cost and what is told of it
+  module _ {C : Type 0} (kind : Kind Observation C) (laws : Laws most_charges kind) (tell : C → Cost) (Near : (ℕ → Observation) → ℕ → List ℕ → Cost → Type 0)
+      (near : (seen : ℕ → Observation) (L : ℕ) (psdu : List ℕ) (cost : C) → NearestPsdu kind seen L psdu cost → Near seen L psdu (tell cost))
+    where
+      decided_by_kind : (r : Result (List ℕ) Fault) → chips_for f octets ≡ r → told_by tell (bind r (decided_by kind f)) ≡ Ok d →
+          (chips : List ℕ) × (chips_for f octets ≡ Ok chips) × Near (frame_seen f chips) f.octets d.1 d.0
+      decided_by_kind (Ok chips) is ok =
+          let seen = frame_seen f chips in
+          let L = f.octets in
+          let got : Cost × List ℕ = (tell (traced_psdu_cost kind seen L), traced_psdu kind seen L) in
+          let same : got ≡ d = cc in
+          (chips, is, subst (λ (x : Cost × List ℕ). Near seen L x.1 x.0) same (near seen L _ _ (traces_psdu kind laws seen L short)))
+      decided_by_kind (Err e) is ok = let z : ◌≡◌ {A = ℕ} 0 1 = cc in absurd (omega arith)
 
   decided : (choice : CostChoice) → decoded_as choice f octets ≡ Ok d → Decided choice f octets d
-  decided ByCount ok = by_count (chips_for f octets) refl ok
-  decided ByGraded ok = by_graded (chips_for f octets) refl ok
+  decided ByCount ok = decided_by_kind count_kind count_laws told_count (NearestBy ByCount) (λ seen L psdu cost n. n) (chips_for f octets) refl ok
+  decided ByGraded ok = decided_by_kind graded_kind graded_laws told_graded (NearestBy ByGraded) (λ seen L psdu cost n. n) (chips_for f octets) refl ok
 
 -- section by section
 module _ (capture : List ℕ) (v : Verdict) (s : Settings) (rest : List ℕ) (section_1 : settings_of capture ≡ Ok (s, rest)) where

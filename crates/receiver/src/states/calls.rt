@@ -1,12 +1,11 @@
 // The calls of a receiver: begin, block, close and abandon.
-ghost use Rattle.std.specs.Prelude.{◌≡◌, ◌<◌, ◌≤◌, length, Ok};
-ghost use Rattle.codebits.specs.Message.{blocks, message_length};
-ghost use Rattle.header.specs.View.{view};
+ghost use Rattle.std.specs.Prelude.{◌≡◌, Ok};
 ghost use Rattle.receiver.specs.Judging.{memory_judged, room_judged, close_judged};
-ghost use Rattle.receiver.specs.Receiver.{frame_of, begun, octets, block_step, close_step};
+ghost use Rattle.receiver.specs.Receiver.{begun, octets, block_step, close_step};
 ghost use Rattle.receiver.specs.Promise.{NearestOfEveryList};
 
-use super::{Listening, OpenFrame, Ticket};
+use super::{COSTS, Listening, OpenFrame, Ticket};
+use codebits::{BLOCK_BITS, BLOCK_CODE_BITS, block_count};
 use costs::{CostKind, Observation};
 use faults::{Fault, FaultKind, Layer};
 use header::Header;
@@ -14,37 +13,16 @@ use linecode::lines::LineCode;
 use reading::read_block;
 use trellis::{run_block, trace};
 
-// Two banks of a cost for each of the 64 states.
-const COSTS: usize = 128;
-
-fn refusal(kind: FaultKind, place: usize) -> Fault
-    ensures { result ≡ record { kind = kind; place = place; layer = Layer.Frame } }
-{
-    Fault {
-        kind,
-        place,
-        layer: Layer::Frame,
-    }
-}
-
-// The blocks of a PSDU.
-fn block_count(octets: u16) -> u32
-    requires { octets ≤ 2047 }
-    ensures { result ≡ blocks octets }
-{
-    (8 * u32::from(octets) + 6).div_ceil(88)
-}
-
 // Refusal 1: too few costs, or too few words for the message.
+// Costs and words stay two slices, and here two numbers: a block writes both and a close only reads them, so that one type for the two would be two types, and the refusal tells which is short.
 fn judge_memory(octets: u16, costs: usize, words: usize) -> Result<(), Fault>
-    requires { octets ≤ 2047 }
     ensures { result ≡ memory_judged octets costs words (Ok tt) }
 {
     if costs < COSTS {
-        return Err(refusal(FaultKind::ShortMemory, costs));
+        return Err(Layer::Frame.refusal(FaultKind::ShortMemory, costs));
     }
-    if words < 88 * block_count(octets) as usize {
-        return Err(refusal(FaultKind::ShortMemory, words));
+    if words < BLOCK_BITS * block_count(octets) as usize {
+        return Err(Layer::Frame.refusal(FaultKind::ShortMemory, words));
     }
     Ok(())
 }
@@ -62,7 +40,7 @@ impl Listening {
 
     // Opens a frame for this header.
     pub fn begin(self, header: Header) -> (OpenFrame, Ticket)
-        ensures state { frame_of result.0 ≡ begun header }
+        ensures state { result.0 ≡ begun header }
     {
         let Listening { unit } = self;
         let frame = OpenFrame {
@@ -77,28 +55,28 @@ impl Listening {
 impl OpenFrame {
     // Refusals 1 and 2: too few costs or words, or a frame that has all its blocks.
     fn judge_room(&self, costs: usize, words: usize) -> Result<(), Fault>
-        ensures { result ≡ room_judged (octets (frame_of self.now).header) (frame_of self.now).accepted costs words (Ok tt) }
+        ensures { result ≡ room_judged (octets self.now.header) self.now.accepted costs words (Ok tt) }
     {
         let octets = self.header.length();
         judge_memory(octets, costs, words)?;
         let blocks = block_count(octets);
         if self.accepted >= blocks {
-            return Err(refusal(FaultKind::FullFrame, blocks as usize));
+            return Err(Layer::Frame.refusal(FaultKind::FullFrame, blocks as usize));
         }
         Ok(())
     }
 
     // Refusals 1, 3 and 5: too few costs or words, a block that is lacking, or a short buffer.
     fn judge_close(&self, costs: usize, words: usize, room: usize) -> Result<(), Fault>
-        ensures { result ≡ close_judged (octets (frame_of self.now).header) (frame_of self.now).accepted costs words room }
+        ensures { result ≡ close_judged (octets self.now.header) self.now.accepted costs words room }
     {
         let octets = self.header.length();
         judge_memory(octets, costs, words)?;
         if self.accepted < block_count(octets) {
-            return Err(refusal(FaultKind::EarlyClose, self.accepted as usize));
+            return Err(Layer::Frame.refusal(FaultKind::EarlyClose, self.accepted as usize));
         }
         if room < octets as usize {
-            return Err(refusal(FaultKind::ShortBuffer, room));
+            return Err(Layer::Frame.refusal(FaultKind::ShortBuffer, room));
         }
         Ok(())
     }
@@ -111,14 +89,14 @@ impl OpenFrame {
         words: &mut [u64],
         chips: &[u8],
     ) -> Result<(), Fault>
-        ensures answer { result ≡ (block_step K.CostKind.kind (L.LineCode.code line.now) (frame_of self.old) costs.old words.old chips.now).answer }
-        ensures state { frame_of self.new ≡ (block_step K.CostKind.kind (L.LineCode.code line.now) (frame_of self.old) costs.old words.old chips.now).frame }
-        ensures costs { costs.new ≡ (block_step K.CostKind.kind (L.LineCode.code line.now) (frame_of self.old) costs.old words.old chips.now).costs }
-        ensures words { words.new ≡ (block_step K.CostKind.kind (L.LineCode.code line.now) (frame_of self.old) costs.old words.old chips.now).words }
+        ensures answer { result ≡ (block_step K.CostKind.kind (L.LineCode.code line.now) self.old costs.old words.old chips.now).answer }
+        ensures state { self.new ≡ (block_step K.CostKind.kind (L.LineCode.code line.now) self.old costs.old words.old chips.now).frame }
+        ensures costs { costs.new ≡ (block_step K.CostKind.kind (L.LineCode.code line.now) self.old costs.old words.old chips.now).costs }
+        ensures words { words.new ≡ (block_step K.CostKind.kind (L.LineCode.code line.now) self.old costs.old words.old chips.now).words }
     {
         self.judge_room(costs.len(), words.len())?;
         let differential = self.header.differential();
-        let mut observed = [Observation::Sure(false); 176];
+        let mut observed = [Observation::Sure(false); BLOCK_CODE_BITS];
         let last = read_block(
             line,
             differential,
@@ -143,9 +121,9 @@ impl OpenFrame {
         words: &[u64],
         psdu: &mut [u8],
     ) -> (Listening, Result<K, Fault>)
-        ensures answer { result.1 ≡ (close_step K.CostKind.kind (frame_of self) costs.now words.now psdu.old).answer }
-        ensures memory { psdu.new ≡ (close_step K.CostKind.kind (frame_of self) costs.now words.now psdu.old).psdu }
-        ensures promise { (told : K) → result.1 ≡ Ok told → NearestOfEveryList K.CostKind.kind told psdu.old psdu.new (λ _. record { receiver = frame_of self; costs = costs.now; words = words.now }) }
+        ensures answer { result.1 ≡ (close_step K.CostKind.kind self costs.now words.now psdu.old).answer }
+        ensures memory { psdu.new ≡ (close_step K.CostKind.kind self costs.now words.now psdu.old).psdu }
+        ensures promise { (told : K) → result.1 ≡ Ok told → NearestOfEveryList K.CostKind.kind told psdu.old psdu.new (λ _. record { receiver = self; costs = costs.now; words = words.now }) }
     {
         let judged = self.judge_close(costs.len(), words.len(), psdu.len());
         let octets = self.header.length() as usize;

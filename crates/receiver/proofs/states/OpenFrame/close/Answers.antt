@@ -3,7 +3,7 @@ use Rattle.std.proofs.lemmas.List.{get_or_read}
 use Rattle.trellis.specs.Memory.{cost_in}
 use Rattle.trellis.specs.Trace.{psdu_after}
 use Rattle.trellis.proofs.Frames.{blocks_run}
-use Rattle.receiver.specs.Receiver.{Closed, frame_of, octets, close_by, close_step}
+use Rattle.receiver.specs.Receiver.{Closed, Open, octets, close_by, close_step}
 use Rattle.receiver.proofs.Passing.{closable}
 use Rattle.receiver.proofs.Promised.{every_list}
 use Rattle.receiver.proofs.states.OpenFrame.close.Goals as goal
@@ -11,7 +11,7 @@ use Rattle.receiver.proofs.states.OpenFrame.close.Goals as goal
 pub returns-in-Ok : goal.returns-in-Ok
 returns-in-Ok g c =
     let kind = g.K.CostKind.kind in
-    let f = frame_of c.args.self in
+    let f = c.args.self in
     let costs = c.args.costs.now in
     let words = c.args.words.now in
     let psdu = c.args.psdu.now in
@@ -21,7 +21,7 @@ returns-in-Ok g c =
     let some : 0 < length costs = omega (arith, fine.costs) in
     let first : c.index-costs-0.result ≡ cost_in kind costs 0 0 = get_or_read costs 0 _ some c.index-costs-0.is kind.nothing in
     let told = ap Ok first ∙ sym (ap (λ (b : Closed g.row.K.Denot). b.answer) step) in
-    let wrote = c.trace.ensures.memory ∙ (ap (λ n. psdu_after n words psdu) c.length-octets.ensures.answer ∙ sym (ap (λ (b : Closed g.row.K.Denot). b.psdu) step)) in
+    let wrote = c.trace.ensures.memory ∙ (ap (λ n. psdu_after n words psdu) (c.length-octets.ensures.answer ∙ ap (λ (o : Open). octets o.header) c.self.view_is) ∙ sym (ap (λ (b : Closed g.row.K.Denot). b.psdu) step)) in
     record {
       answer = told;
       memory = wrote;
