@@ -16,7 +16,7 @@ fn run(rt: &HostRuntime) -> anyhow::Result<()> {
     let heap = rt.alloc();
     let mut capture = Vec::new(heap);
     rt.stdin().take(LONGEST_CAPTURE).read_to_end(&mut capture)?;
-    let text = report(heap, capture.as_slice())?;
+    let text = report(heap, &capture)?;
     rt.stdout().write_all(text.as_bytes())?;
     Ok(())
 }

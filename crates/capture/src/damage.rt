@@ -7,7 +7,7 @@ fn flip(chips: &mut [u8], place: usize) -> anyhow::Result<()> {
     let Some(chip) = chips.get_mut(place) else {
         return Err(anyhow!("a place to flip is past the last chip of the PSDU"));
     };
-    *chip = *chip ^ 1;
+    *chip ^= 1;
     Ok(())
 }
 
@@ -27,7 +27,7 @@ pub fn flip_by_rate(chips: &mut [u8], thousandths: u64, start: u64) {
             .wrapping_mul(6364136223846793005)
             .wrapping_add(1442695040888963407);
         if (number >> 33) % 1000 < thousandths {
-            *chip = *chip ^ 1;
+            *chip ^= 1;
         }
     }
 }

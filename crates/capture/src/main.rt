@@ -36,19 +36,19 @@ fn run(rt: &HostRuntime) -> anyhow::Result<()> {
     };
     let order = order_of(band.as_str(), mode.as_str(), cost.as_str())?;
     let psdu = octets_of(heap, psdu.as_str())?;
-    let mut frame = chips_of(heap, &order, psdu.as_slice())?;
+    let mut frame = chips_of(heap, &order, &psdu)?;
     match damage {
         [] => {}
         [how, places @ ..] if how.as_str() == "flip" => {
-            flip_places(frame.psdu.as_mut_slice(), places)?;
+            flip_places(&mut frame.psdu, places)?;
         }
         [how, rate, start] if how.as_str() == "rate" => {
             let rate = number_of(rate.as_str())?;
-            flip_by_rate(frame.psdu.as_mut_slice(), rate, number_of(start.as_str())?);
+            flip_by_rate(&mut frame.psdu, rate, number_of(start.as_str())?);
         }
         _ => return Err(anyhow!(USAGE)),
     }
     let capture = write_capture(heap, &order, &frame)?;
-    rt.stdout().write_all(capture.as_slice())?;
+    rt.stdout().write_all(&capture)?;
     Ok(())
 }

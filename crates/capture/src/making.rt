@@ -2,10 +2,10 @@
 use anyhow::anyhow;
 use bands::{Band, RateMode, is_differential, psdu_line};
 use captures::CostChoice;
-use faults::Fault;
+use codebits::{MOST_OCTETS, block_count};
 use header::{header_chips, write_header};
 use sender::{block_chips, check_psdu, send_frame};
-use std::alloc::{AllocError, Global};
+use std::alloc::Global;
 
 // What is to be sent, beside the PSDU.
 #[derive(Clone, Copy)]
@@ -22,31 +22,25 @@ pub struct FrameChips {
     pub psdu: Vec<u8>,
 }
 
-fn zeros(heap: Global, count: usize) -> Result<Vec<u8>, AllocError> {
-    let mut chips = Vec::new(heap);
-    chips.resize(count, 0)?;
-    Ok(chips)
-}
-
 // The chips that are sent for a PSDU.
 pub fn chips_of(heap: Global, order: &Order, psdu: &[u8]) -> anyhow::Result<FrameChips> {
     check_psdu(psdu)?;
-    let octets = psdu.len();
-    let mut header = zeros(heap, header_chips(order.band))?;
-    let last = write_header(order.band, order.mode, octets, header.as_mut_slice())?;
+    let mut header = vec![in heap; 0; header_chips(order.band)]?;
+    let last = write_header(order.band, order.mode, psdu.len(), &mut header)?;
     let Some(line) = psdu_line(order.band, order.mode) else {
         return Err(anyhow!("the band lacks the rate mode"));
     };
-    let blocks = (8 * octets.min(2047) + 6).div_ceil(88);
-    let mut chips = zeros(heap, blocks.wrapping_mul(block_chips(&line)))?;
+    let blocks = block_count(psdu.len().min(MOST_OCTETS) as u16) as usize;
+    let mut chips = vec![in heap; 0; blocks.wrapping_mul(block_chips(&line))]?;
     let differential = is_differential(order.band, order.mode);
-    send_frame(&line, psdu, differential, last, chips.as_mut_slice())?;
+    send_frame(&line, psdu, differential, last, &mut chips)?;
     Ok(FrameChips {
         header,
         psdu: chips,
     })
 }
 
+// The letters of band and cost. The bench reads them by a match from letters, and this is the match to letters: neither can be made of the other.
 fn letters(order: &Order) -> [u8; 2] {
     let band = match order.band {
         Band::Mhz780 => 'A',
@@ -74,7 +68,7 @@ fn write_section(capture: &mut Vec<u8>, octets: &[u8]) -> anyhow::Result<()> {
 pub fn write_capture(heap: Global, order: &Order, frame: &FrameChips) -> anyhow::Result<Vec<u8>> {
     let mut capture = Vec::new(heap);
     write_section(&mut capture, &letters(order))?;
-    write_section(&mut capture, frame.header.as_slice())?;
-    write_section(&mut capture, frame.psdu.as_slice())?;
+    write_section(&mut capture, &frame.header)?;
+    write_section(&mut capture, &frame.psdu)?;
     Ok(capture)
 }

@@ -12,7 +12,7 @@ fn run(rt: &HostRuntime) -> anyhow::Result<()> {
     let heap = rt.alloc();
     for name in env::args(rt)?.skip(1) {
         let capture = fs::read(rt, name.as_str())?;
-        let text = report(heap, capture.as_slice())?;
+        let text = report(heap, &capture)?;
         print!(rt; "{name}\n{text}")?;
     }
     Ok(())

@@ -1,38 +1,39 @@
 // The decoder that this project replaces: it leaves tail and pad bits free, and starts its trace at the cheapest state.
-ghost use Rattle.std.specs.Prelude.{◌<◌};
-
-use costs::{Count, Observation};
+use codebits::{BLOCK_BITS, BLOCK_CODE_BITS};
+use costs::{CostKind, Count, Observation};
 use trellis::run_block;
 
+// The states of the trellis; the costs are two banks of so many.
+const STATES: usize = 64;
+
+// The octets that one block begins.
+const OCTETS: usize = BLOCK_BITS / 8;
+
 // The first eleven octets of what it traces from one block's observed code bits, and its cost.
-pub fn careless(observed: &[Observation; 176]) -> ([u8; 11], u32) {
-    let mut costs = [Count { differing: 0 }; 128];
-    let mut words = [0u64; 88];
-    run_block(observed, 0, 11, &mut costs, &mut words);
-    let start = cheapest(&costs);
-    let cost = costs[start].differing;
+pub fn careless(observed: &[Observation; BLOCK_CODE_BITS]) -> ([u8; OCTETS], u32) {
+    let mut costs = [Count::nothing(); 2 * STATES];
+    let mut words = [0; BLOCK_BITS];
+    run_block(observed, 0, OCTETS, &mut costs, &mut words);
+    let (start, cost) = cheapest(&costs);
     (traced(&words, start), cost)
 }
 
-// The first of the cheapest states.
-fn cheapest(costs: &[Count; 128]) -> usize
-    ensures { result < 64 }
-{
-    let mut state = 0;
-    for s in 1..64 {
-        if costs[s].differing < costs[state].differing {
-            state = s;
-        }
-    }
-    state
+// The first of the cheapest states, and its cost, both in the first bank.
+fn cheapest(costs: &[Count]) -> (usize, u32) {
+    let cheapest = costs
+        .iter()
+        .take(STATES)
+        .enumerate()
+        .min_by_key(|(_, cost)| cost.differing);
+    cheapest.map_or((0, 0), |(state, cost)| (state, cost.differing))
 }
 
-fn traced(words: &[u64; 88], start: usize) -> [u8; 11] {
-    let mut octets = [0u8; 11];
-    let mut state = start % 64;
-    for k in (0..88).rev() {
+fn traced(words: &[u64; BLOCK_BITS], start: usize) -> [u8; OCTETS] {
+    let mut octets = [0; OCTETS];
+    let mut state = start % STATES;
+    for (k, word) in words.iter().enumerate().rev() {
         octets[k / 8] |= ((state % 2) as u8) << (k % 8);
-        state = state / 2 + 32 * ((words[k] >> state) % 2) as usize;
+        state = state / 2 + STATES / 2 * ((word >> state) % 2) as usize;
     }
     octets
 }

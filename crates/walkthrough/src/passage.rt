@@ -19,9 +19,9 @@ pub fn pass<L: LineCode>(line: &L, position: u32, value: u32) -> Result<Passage,
     line.spread(position, value, &mut sent)?;
     let flipped = FLIPS[position as usize % 4];
     let mut received = sent;
+    // The places are scattered: from the group's position on, every third one.
     for i in 0..flipped {
-        let at = (position as usize + 3 * i) % 8;
-        received[at] ^= 1;
+        received[(position as usize + 3 * i) % 8] ^= 1;
     }
     let answer = line.despread(position, &received)?;
     Ok(Passage {

@@ -1,10 +1,11 @@
 // A frame received: its header read, its blocks taken in turn, and its PSDU.
-use bands::{Band, BandLine};
+use bands::BandLine;
+use codebits::BLOCK_BITS;
 use costs::CostKind;
 use faults::Fault;
 use header::Header;
 use linecode::lines::LineCode;
-use receiver::{Listening, OpenFrame};
+use receiver::{COSTS, Listening, OpenFrame};
 use sender::block_chips;
 use std::alloc::{AllocError, Global};
 
@@ -15,10 +16,8 @@ pub struct Received<K> {
     pub psdu: Vec<u8>,
 }
 
-// The most blocks and message bits that a frame can have.
-const BLOCKS: usize = 187;
-
-const WORDS: usize = 16456;
+// The words of the longest message.
+const WORDS: usize = 187 * BLOCK_BITS;
 
 // Takes the whole blocks of the chips in turn. One that is refused leaves the frame without it, so that the close tells.
 fn take_blocks<K: CostKind>(
@@ -28,15 +27,8 @@ fn take_blocks<K: CostKind>(
     words: &mut [u64],
     chips: &[u8],
 ) {
-    let size = block_chips(line);
-    let mut rest = chips;
-    for _ in 0..BLOCKS {
-        if rest.len() < size {
-            break;
-        }
-        let (block, later) = rest.split_at(size);
+    for block in chips.chunks_exact(block_chips(line).max(1)) {
         let _ = frame.block(line, costs, words, block);
-        rest = later;
     }
 }
 
@@ -47,12 +39,9 @@ pub fn receive<K: CostKind>(
     line: &BandLine,
     chips: &[u8],
 ) -> Result<Received<K>, AllocError> {
-    let mut costs = Vec::new(heap);
-    for _ in 0..128 {
-        costs.push(K::nothing())?;
-    }
-    let mut words = vec![in heap; 0u64; WORDS]?;
-    let mut psdu = vec![in heap; 0u8; header.length() as usize]?;
+    let mut costs = vec![in heap; K::nothing(); COSTS]?;
+    let mut words = vec![in heap; 0; WORDS]?;
+    let mut psdu = vec![in heap; 0; header.length() as usize]?;
     let (mut frame, ticket) = Listening::new().begin(header);
     take_blocks(&mut frame, line, &mut costs, &mut words, chips);
     let (listening, told) = frame.close(ticket, &costs, &words, &mut psdu);

@@ -2,8 +2,9 @@
 use crate::careless::careless;
 use crate::receiving::receive;
 use crate::sending::{SentFrame, send};
-use crate::shown::{chips_text, hex_text};
+use crate::shown::chips_text;
 use bands::{Band, RateMode, psdu_line};
+use codebits::BLOCK_CODE_BITS;
 use costs::{Count, Graded, Observation};
 use header::{Header, header_chips, read_header, write_header};
 use linecode::lines::LineCode;
@@ -51,15 +52,15 @@ fn show_frame(rt: &HostRuntime, band: Band, mode: RateMode, psdu: &[u8]) -> anyh
 // The first two groups, of which 16 chips at most are shown.
 fn first_groups(rt: &HostRuntime, sent: &SentFrame) -> anyhow::Result<String> {
     let count = (2 * sent.line.chips_per_group().min(8)).min(sent.chips.len());
-    Ok(chips_text(rt.alloc(), &sent.chips[0..count])?)
+    Ok(chips_text(rt.alloc(), &sent.chips[..count])?)
 }
 
 // What both kinds of cost return.
 fn show_received(rt: &HostRuntime, header: Header, sent: &SentFrame) -> anyhow::Result<()> {
     let count = receive::<Count>(rt.alloc(), header, &sent.line, &sent.chips)?;
     let graded = receive::<Graded>(rt.alloc(), header, &sent.line, &sent.chips)?;
-    let by_count = hex_text(rt.alloc(), &count.psdu)?;
-    let by_graded = hex_text(rt.alloc(), &graded.psdu)?;
+    let by_count = hex::encode(rt.alloc(), &count.psdu)?;
+    let by_graded = hex::encode(rt.alloc(), &graded.psdu)?;
     let Count { differing } = count.told?;
     let Graded { sure, doubtful } = graded.told?;
     println!(rt; "  count {differing}: {by_count}; graded {sure} {doubtful}: {by_graded}")?;
@@ -74,7 +75,7 @@ pub fn header_refusals(rt: &HostRuntime) -> anyhow::Result<()> {
 }
 
 fn show_header(rt: &HostRuntime, band: Band, mode: RateMode, octets: usize) -> anyhow::Result<()> {
-    let mut chips = vec![in rt.alloc(); 0u8; header_chips(band)]?;
+    let mut chips = vec![in rt.alloc(); 0; header_chips(band)]?;
     let (mhz, number) = (band.number(), mode.number());
     match write_header(band, mode, octets, &mut chips) {
         Ok(_) => println!(rt; "band {mhz}, mode {number}, length {octets}: accepted")?,
@@ -86,46 +87,50 @@ fn show_header(rt: &HostRuntime, band: Band, mode: RateMode, octets: usize) -> a
 pub fn damaged(rt: &HostRuntime) -> anyhow::Result<()> {
     println!(rt; "The volume update in band 915, damaged on the way")?;
     println!(rt; "mode 1, two chips of each group flipped:")?;
-    flip_each(rt, 16, 2)?;
+    show_damaged(
+        rt,
+        RateMode::Mode1,
+        |place, chip| flipped_if(place % 16 < 2, chip),
+    )?;
     println!(rt; "mode 1, group 5 erased:")?;
-    erase_group(rt)?;
+    show_damaged(
+        rt,
+        RateMode::Mode1,
+        |place, chip| if place / 16 == 5 { 0 } else { chip },
+    )?;
     println!(rt; "mode 3, four chips flipped:")?;
-    flip_some(rt, 4)?;
+    show_damaged(rt, RateMode::Mode3, |place, chip| {
+        flipped_if(place % 20 == 0 && place / 20 < 4, chip)
+    })?;
     println!(rt; "mode 3, nine chips flipped, which is beyond the promise:")?;
-    flip_some(rt, 9)
+    show_damaged(rt, RateMode::Mode3, |place, chip| {
+        flipped_if(place % 20 == 0 && place / 20 < 9, chip)
+    })
 }
 
-// Flips the first chips of every group.
-fn flip_each(rt: &HostRuntime, group: usize, flips: usize) -> anyhow::Result<()> {
-    let mut sent = send(rt.alloc(), Band::Mhz915, RateMode::Mode1, &VOLUME)?;
-    for (i, chip) in sent.chips.iter_mut().enumerate() {
-        if i % group.max(1) < flips {
-            *chip ^= 1;
-        }
-    }
-    let header = read_header(Band::Mhz915, &sent.header)?;
-    show_received(rt, header, &sent)
+fn flipped_if(flips: bool, chip: u8) -> u8 {
+    chip ^ u8::from(flips)
 }
 
-fn erase_group(rt: &HostRuntime) -> anyhow::Result<()> {
-    let mut sent = send(rt.alloc(), Band::Mhz915, RateMode::Mode1, &VOLUME)?;
-    for (i, chip) in sent.chips.iter_mut().enumerate() {
-        if i / 16 == 5 {
-            *chip = 0;
-        }
+// What arrives of each chip, told by its place and the chip that was sent.
+fn damage<F: Fn(usize, u8) -> u8>(chips: &mut [u8], arrives: F)
+    requires { F.IsAlwaysCallable arrives }
+{
+    for (place, chip) in chips.iter_mut().enumerate() {
+        *chip = arrives(place, *chip);
     }
-    let header = read_header(Band::Mhz915, &sent.header)?;
-    show_received(rt, header, &sent)
 }
 
-// Flips the chips 0, 20, 40 and so on.
-fn flip_some(rt: &HostRuntime, flips: usize) -> anyhow::Result<()> {
-    let mut sent = send(rt.alloc(), Band::Mhz915, RateMode::Mode3, &VOLUME)?;
-    for (i, chip) in sent.chips.iter_mut().enumerate() {
-        if i % 20 == 0 && i / 20 < flips {
-            *chip ^= 1;
-        }
-    }
+// The volume update, as it comes back from chips that were damaged so.
+fn show_damaged<F: Fn(usize, u8) -> u8>(
+    rt: &HostRuntime,
+    mode: RateMode,
+    arrives: F,
+) -> anyhow::Result<()>
+    requires { F.IsAlwaysCallable arrives }
+{
+    let mut sent = send(rt.alloc(), Band::Mhz915, mode, &VOLUME)?;
+    damage(&mut sent.chips, arrives);
     let header = read_header(Band::Mhz915, &sent.header)?;
     show_received(rt, header, &sent)
 }
@@ -141,19 +146,18 @@ pub fn story(rt: &HostRuntime) -> anyhow::Result<()> {
 
 fn compare(rt: &HostRuntime, psdu: &[u8]) -> anyhow::Result<()> {
     let mut sent = send(rt.alloc(), Band::Mhz915, RateMode::Mode3, psdu)?;
-    for (i, chip) in sent.chips.iter_mut().enumerate() {
-        if i == 33 || i == 48 || i == 65 {
-            *chip ^= 1;
-        }
-    }
+    damage(
+        &mut sent.chips,
+        |place, chip| flipped_if(matches!(place, 33 | 48 | 65), chip),
+    );
     let header = read_header(Band::Mhz915, &sent.header)?;
-    let mut observed = [Observation::Sure(false); 176];
+    let mut observed = [Observation::Sure(false); BLOCK_CODE_BITS];
     let first = Observation::Sure(header.last_bit());
     let _ = read_block(&sent.line, false, 0, first, &sent.chips, &mut observed)?;
     let (octets, cost) = careless(&observed);
-    let whole = psdu.len().min(11);
-    let careless = hex_text(rt.alloc(), &octets[0..whole])?;
-    let was = hex_text(rt.alloc(), psdu)?;
+    let whole = psdu.len().min(octets.len());
+    let careless = hex::encode(rt.alloc(), &octets[..whole])?;
+    let was = hex::encode(rt.alloc(), psdu)?;
     println!(rt; "sent {was}; cheapest state: {careless}, cost {cost}")?;
     show_received(rt, header, &sent)
 }

@@ -13,19 +13,17 @@ pub struct SentFrame {
     pub chips: Vec<u8>,
 }
 
-// The most blocks that a frame can have.
-const BLOCKS: usize = 187;
-
 pub fn send(heap: Global, band: Band, mode: RateMode, psdu: &[u8]) -> anyhow::Result<SentFrame> {
     let Some(line) = psdu_line(band, mode) else {
         return Err(anyhow!("the band lacks the mode"));
     };
-    let mut header = vec![in heap; 0u8; header_chips(band)]?;
+    let mut header = vec![in heap; 0; header_chips(band)]?;
     let last = write_header(band, mode, psdu.len(), &mut header)?;
-    let mut block = vec![in heap; 0u8; block_chips(&line)]?;
+    let mut block = vec![in heap; 0; block_chips(&line)]?;
     let mut chips = Vec::new(heap);
     let mut cursor = Cursor::new(psdu, is_differential(band, mode), last);
-    for _ in 0..BLOCKS {
+    // Block by block, to show the cursor; a whole frame is one call of `send_frame`. No PSDU has more blocks than it has octets.
+    for _ in psdu {
         match cursor.next_block(&line, &mut block)? {
             Some(_) => chips.extend_from_slice(&block)?,
             None => break,

@@ -17,11 +17,9 @@ const LINE: Whitened<TableCode> = Whitened {
 // Each octet of the text is two groups of four bits, the low bits first.
 pub fn follow_text(rt: &HostRuntime) -> anyhow::Result<()> {
     println!(rt; "The text \"{TEXT}\" by the whitened (8,4) code, damaged on the way")?;
-    let mut position = 0;
-    for octet in TEXT.bytes() {
-        show_group(rt, position, u32::from(octet % 16))?;
-        show_group(rt, position.wrapping_add(1), u32::from(octet / 16))?;
-        position = position.wrapping_add(2);
+    let values = TEXT.bytes().flat_map(|octet| [octet % 16, octet / 16]);
+    for (position, value) in (0..).zip(values) {
+        show_group(rt, position, u32::from(value))?;
     }
     Ok(())
 }
