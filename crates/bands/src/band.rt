@@ -22,7 +22,7 @@ pub enum RateMode {
     Mode3,
 }
 
-// A number that is no band's frequency.
+// A number that is no band's frequency. Bands and modes have an error each, which tells what was read.
 #[derive(Clone, Copy, PartialEq, Eq, Debug)]
 pub struct UnknownBand(pub u16);
 

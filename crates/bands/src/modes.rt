@@ -11,7 +11,7 @@ use linecode::straight::Straight;
 use tables::TableCode;
 
 // The line code of a PSDU, or nothing where the band lacks the mode.
-// Band and mode are passed apart, here and above: a pair of them could be one that no band has, so that nothing would hold of it.
+// Calls take a band and a mode one by one, as whoever tunes a radio has them: a pair may be one that no band has, which is what this call tells.
 pub fn psdu_line(band: Band, mode: RateMode) -> Option<BandLine>
     ensures { held result ≡ psdu_line band mode }
 {
@@ -73,6 +73,7 @@ fn line_at_2000(mode: RateMode) -> BandLine
 pub fn is_differential(band: Band, mode: RateMode) -> bool
     ensures { result ≡ psdu_differential band mode }
 {
+    // The rule is the same in every band.
     let _ = band;
     mode == RateMode::Mode0
 }

@@ -2,7 +2,7 @@
 use anyhow::anyhow;
 use bands::{Band, RateMode, is_differential, psdu_line};
 use captures::CostChoice;
-use codebits::{MOST_OCTETS, block_count};
+use codebits::block_count;
 use header::{header_chips, write_header};
 use sender::{block_chips, check_psdu, send_frame};
 use std::alloc::Global;
@@ -30,8 +30,8 @@ pub fn chips_of(heap: Global, order: &Order, psdu: &[u8]) -> anyhow::Result<Fram
     let Some(line) = psdu_line(order.band, order.mode) else {
         return Err(anyhow!("the band lacks the rate mode"));
     };
-    let blocks = block_count(psdu.len().min(MOST_OCTETS) as u16) as usize;
-    let mut chips = vec![in heap; 0; blocks.wrapping_mul(block_chips(&line))]?;
+    let blocks = block_count(psdu.len() as u16) as usize;
+    let mut chips = vec![in heap; 0; blocks * block_chips(&line)]?;
     let differential = is_differential(order.band, order.mode);
     send_frame(&line, psdu, differential, last, &mut chips)?;
     Ok(FrameChips {

@@ -6,7 +6,7 @@ use captures::CostChoice;
 use std::alloc::Global;
 use std::str::FromStr;
 
-// What has the number that is written, or what is wanted instead.
+// The band or the mode whose number is written, or a word on what is wanted.
 fn numbered<N: FromStr, T: TryFrom<N>>(text: &str, wanted: &'static str) -> anyhow::Result<T>
 where
     N::Err: Drop,
@@ -21,6 +21,7 @@ where
     }
 }
 
+// A word of the command line, and no octet of a capture, so that it is matched here and not by the captures' letters.
 fn cost_named(text: &str) -> anyhow::Result<CostChoice> {
     match text {
         "p" => Ok(CostChoice::Count),
@@ -49,7 +50,7 @@ fn digit_of(code: u8) -> anyhow::Result<u8> {
     }
 }
 
-// The octets that pairs of hexadecimal digits write.
+// The octets that pairs of hexadecimal digits write. By hand, as the library's reader tells of a missing digit before a wrong one.
 pub fn octets_of(heap: Global, text: &str) -> anyhow::Result<Vec<u8>> {
     let mut octets = Vec::new(heap);
     for digits in text.as_bytes().chunks(2) {

@@ -1,5 +1,6 @@
 // A capture's PSDU, decoded from section 3.
-ghost use Rattle.std.specs.Prelude.{◌≡◌, ◌≤◌, length, Ok};
+ghost use Rattle.std.specs.Prelude.{◌≡◌, ◌*◌, ◌^◌, ◌<◌, ◌≤◌, length, Ok};
+ghost use Rattle.std.specs.Mem.{type_size};
 ghost use Rattle.codebits.specs.Message.{blocks, message_length};
 ghost use Rattle.receiver.specs.Receiver.{begun, octets, frame_by};
 ghost use Rattle.header.specs.View.{view};
@@ -46,27 +47,22 @@ fn hear<L: LineCode, K: CostKind>(
 }
 
 // Decodes the PSDU that the chips carry into the start of the buffer, and tells its cost.
-// The costs are the caller's: of an array of any kind of cost it is not proved here that it fits in memory.
-fn decode<K: CostKind>(
-    header: Header,
-    input: &[u8],
-    costs: &mut [K],
-    psdu: &mut [u8; LONGEST],
-) -> Result<K, Fault>
-    requires costs { 128 ≤ length costs.old }
+fn decode<K: CostKind>(header: Header, input: &[u8], psdu: &mut [u8; LONGEST]) -> Result<K, Fault>
+    requires fits { 128 * type_size K.row < 2 ^ 63 }
     requires short { octets header ≤ longest }
     ensures answer { told (octets header) result psdu.new ≡ decoded K.CostKind.kind (frame_after (view header)) input.now }
 {
+    let mut costs = [K::nothing(); COSTS];
     let mut words = [0; WORDS];
     let line = header.line();
     let (mut frame, ticket) = Listening::new().begin(header);
-    match hear(&mut frame, header, &line, input, costs, &mut words) {
+    match hear(&mut frame, header, &line, input, &mut costs, &mut words) {
         Err(fault) => {
             frame.abandon(ticket).switch_off();
             Err(fault)
         }
         Ok(()) => {
-            let (listening, cost) = frame.close(ticket, costs, &words, psdu);
+            let (listening, cost) = frame.close(ticket, &costs, &words, psdu);
             listening.switch_off();
             cost
         }
@@ -84,13 +80,7 @@ pub(crate) fn decode_as(
     ensures answer { told (octets header) result psdu.new ≡ decoded_as choice (frame_after (view header)) input.now }
 {
     match choice {
-        CostChoice::Count => {
-            let mut costs = [Count::nothing(); COSTS];
-            decode(header, input, &mut costs, psdu).map(Cost::from)
-        }
-        CostChoice::Graded => {
-            let mut costs = [Graded::nothing(); COSTS];
-            decode(header, input, &mut costs, psdu).map(Cost::from)
-        }
+        CostChoice::Count => decode::<Count>(header, input, psdu).map(Cost::from),
+        CostChoice::Graded => decode::<Graded>(header, input, psdu).map(Cost::from),
     }
 }

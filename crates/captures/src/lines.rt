@@ -28,7 +28,7 @@ pub fn refused_line(heap: Global, fault: Fault) -> Result<String, AllocError>
     format!(in heap; "refused {number} {place}\n")
 }
 
-// The three lines of an accepted capture.
+// The three lines of an accepted capture. The mode and the length are numbers, as they are printed: a call with types for them would take fewer.
 pub fn frame_lines(
     heap: Global,
     mode: u8,

@@ -64,7 +64,7 @@ fn read_capture(capture: &[u8], psdu: &mut [u8; LONGEST]) -> Result<Outcome, Fau
 pub fn report(heap: Global, capture: &[u8]) -> Result<String, AllocError>
     ensures answer { IfOk result (λ s. string_bytes s ≡ report_of capture.now) }
 {
-    // A close writes to the start of a buffer, so that the PSDU's length is told beside it.
+    // A close writes to the start of a buffer, so that the PSDU's length is told beside it: a part of the buffer in the outcome would say no more.
     let mut psdu = [0; LONGEST];
     match read_capture(capture, &mut psdu) {
         Ok(told) => frame_lines(

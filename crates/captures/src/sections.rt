@@ -8,11 +8,12 @@ use faults::{Fault, FaultKind, Layer};
 pub fn section_start(input: &[u8], number: usize, count: u32) -> Result<&[u8], Fault>
     ensures answer { seen_rest result ≡ section_start number count input.now }
 {
+    let refused = Layer::Bench.refusal(FaultKind::Section, number);
     let [a, b, c, d, rest @ ..] = input else {
-        return Err(Layer::Bench.refusal(FaultKind::Section, number));
+        return Err(refused);
     };
     if u32::from_le_bytes([*a, *b, *c, *d]) != count {
-        return Err(Layer::Bench.refusal(FaultKind::Section, number));
+        return Err(refused);
     }
     Ok(rest)
 }

@@ -20,6 +20,7 @@ pub struct Settings {
 }
 
 // What a letter of section 1 stands for.
+// A trait of its own, and no `TryFrom`: the bands are another crate's, which knows no letters.
 trait Lettered: Copy {
     ghost meant: { ℕ → Option Self };
 
@@ -66,7 +67,7 @@ fn exact(input: &[u8], value: u8, place: usize) -> Result<&[u8], Fault>
     Ok(rest)
 }
 
-// What the letter at a place of section 1 stands for, and what follows it.
+// What the letter at a place of section 1 stands for, and what follows it. That there is an octet is asked here and above: a call for it would be as long.
 fn letter<T: Lettered>(input: &[u8], place: usize) -> Result<(T, &[u8]), Fault>
     ensures { seen result ≡ octet_by T.Lettered.meant place input.now }
 {

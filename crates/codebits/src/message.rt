@@ -19,7 +19,7 @@ pub const BLOCK_CODE_BITS: usize = 2 * BLOCK_BITS;
 pub fn is_length(octets: usize) -> bool
     ensures answer { result ≡ is_length octets }
 {
-    octets >= LEAST_OCTETS && octets <= MOST_OCTETS
+    (LEAST_OCTETS..=MOST_OCTETS).contains(&octets)
 }
 
 // The blocks of a PSDU of so many octets: its bits and the tail in whole blocks.

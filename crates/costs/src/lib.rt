@@ -47,7 +47,7 @@ pub trait CostKind: Copy {
     // What the calls answer.
     ghost kind: { Kind Observation Self };
 
-    // Not by `Default`: each kind writes out what costs nothing.
+    // Not by `Default`: the literal is as short, and shows what costs nothing.
     fn nothing() -> Self
         ensures { result ≡ kind.nothing };
 
@@ -132,7 +132,7 @@ impl CostKind for Graded {
     }
 }
 
-// The count keeps the laws of a kind of cost. One theorem for every kind would only say the trait's own law again.
+// The count keeps the laws of a kind of cost. This theorem and the next name the kinds, as readers look for them; one for every kind would name none.
 pub fn count_keeps_the_laws()
     ensures { Laws most_charges count_kind }
 {}

@@ -18,7 +18,7 @@ few_modes Mode1 = lit≤ tt
 few_modes Mode2 = lit≤ tt
 few_modes Mode3 = lit≤ tt
 
-numbered_back : (m : RateMode) → mode_numbered (mode_number m) ≡ m
+pub numbered_back : (m : RateMode) → mode_numbered (mode_number m) ≡ m
 numbered_back Mode0 = refl
 numbered_back Mode1 = refl
 numbered_back Mode2 = refl

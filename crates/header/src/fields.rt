@@ -69,16 +69,12 @@ impl Phr {
         ((self.bits >> place) % 128).count_ones() % 2 == 1
     }
 
-    // Two bits always name a mode, so there is nothing that a conversion could refuse.
+    // Two bits, each number of which is a mode's.
     pub fn mode(self) -> RateMode
         ensures { result ≡ mode_of self.bits }
     {
-        match (self.bits >> 2) % 4 {
-            0 => RateMode::Mode0,
-            1 => RateMode::Mode1,
-            2 => RateMode::Mode2,
-            _ => RateMode::Mode3,
-        }
+        let number = (self.bits >> 2) % 4;
+        RateMode::try_from(number as u8).unwrap()
     }
 
     pub fn length(self) -> u16

@@ -47,6 +47,7 @@ pub fn write_header(
         return Err(Layer::Header.refusal(FaultKind::FrameLength, psdu_length));
     }
     let [low, high] = Phr::new(mode, psdu_length as u16).octets();
+    // No heap, so a short preamble is a part of the longer one.
     let octets = [0, 0, 0, 0, 0, 0, 0, 0, 0xA7, low, high];
     let start = 8 - preamble_octets(band);
     Ok(write_octets(&header_line(band), &octets[start..], chips))

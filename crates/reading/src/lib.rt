@@ -33,7 +33,7 @@ fn despread_groups<L: LineCode>(
     let count = line.chips_per_group();
     judge(Layer::Frame, values.len() * count, chips)?;
     for (j, value) in values.iter_mut().enumerate() {
-        // A rule of the project: the line code is handed a part that starts in the middle of the chips.
+        // The part is cut by its number: after `zip` with values that are lent to be written the proof knows only how many there are.
         let start = j * count;
         *value = line.despread(first + j as u32, &chips[start..start + count])?;
     }
@@ -50,7 +50,7 @@ fn moved_in(k: usize) -> usize
 }
 
 // A block whose groups are despread: their values, of so many bits each, and the encoded bit before it, after which differential decoding goes on.
-// That bit is no option of the coding: it is there, and told to the next block, under either.
+// The bit before is always there, whether the coding is differential or not, and goes on to the next block: it is no value that a flag tells of.
 #[derive(Clone, Copy)]
 struct Groups<'a> {
     values: &'a [(u32, bool)],

@@ -2,11 +2,12 @@
 use costs::Observation;
 use header::Header;
 use std::marker::Model;
+use trellis::STATES;
 
 mod calls;
 
 // The costs that a device lends: two banks of one for each of the 64 states.
-pub const COSTS: usize = 128;
+pub const COSTS: usize = 2 * STATES;
 
 // A receiver between frames.
 pub struct Listening {

@@ -16,7 +16,7 @@ pub fn check_psdu(psdu: &[u8]) -> Result<(), Fault>
     Ok(())
 }
 
-// The blocks of a PSDU of so many octets, none where it cannot be sent.
+// The blocks of a PSDU of so many octets, none where it cannot be sent: 0 is a number of blocks, and stands for no refusal.
 pub fn blocks_to_send(octets: usize) -> u32
     ensures value { result ≡ blocks_to_send octets }
     ensures few { result ≤ 187 }

@@ -14,7 +14,7 @@ pub struct Register {
 }
 
 impl Register {
-    // The coder at rest, as before the first message bit.
+    // The coder at rest, as before the first message bit. A derived `Default` says as much, and not of what.
     pub fn new() -> Register
         ensures { result.bits ≡ replicate 6 false }
     {

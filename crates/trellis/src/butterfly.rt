@@ -33,7 +33,7 @@ impl Section {
     }
 }
 
-// Whether bit i of a state is 1.
+// Whether bit i of a state is 1. Such a test is one expression at each type of number, and so stands where it is used.
 fn has(state: usize, i: u32) -> bool
     requires { i < 6 }
     ensures { result ≡ bit_at state i }
@@ -41,7 +41,7 @@ fn has(state: usize, i: u32) -> bool
     (state >> i) % 2 == 1
 }
 
-// The two code bits claimed where a 0 follows a state.
+// The two code bits claimed where a 0 follows a state: the taps on its number, as a sender has them on its six bits.
 fn claims(state: usize) -> (bool, bool)
     ensures { (result.0 ≡ first_of state false) × (result.1 ≡ second_of state false) }
 {
@@ -50,7 +50,7 @@ fn claims(state: usize) -> (bool, bool)
     (first, second)
 }
 
-// The bit of a state in its word, if it is taken.
+// The bit of a state in its word, if it is taken: a choice, which compiles to a mask in the vectors.
 fn noted(taken: bool, bit: u32) -> u32
     ensures { result ≡ (if taken then bit else 0) }
 {

@@ -16,6 +16,9 @@ mod back;
 mod butterfly;
 mod steps;
 
+// How many states there are, and so how many costs a bank has.
+pub const STATES: usize = 64;
+
 // Runs the trellis over the observed code bits of a block.
 pub fn run_block<K: CostKind>(
     observed: &[Observation; BLOCK_CODE_BITS],
@@ -28,6 +31,7 @@ pub fn run_block<K: CostKind>(
     ensures memory { (costs.new ≡ costs_after K.CostKind.kind observed.now octets block costs.old) × (words.new ≡ words_after K.CostKind.kind observed.now octets block costs.old words.old) }
 {
     let first = BLOCK_BITS * block;
+    // Memory that a device lends: the words of the whole message, of which a block has its part.
     let words = &mut words[first..first + BLOCK_BITS];
     steps::run(observed, block, octets as u16, costs, words);
 }

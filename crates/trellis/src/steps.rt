@@ -5,12 +5,10 @@ ghost use Rattle.nearest.specs.Trellis.{free};
 ghost use Rattle.trellis.specs.Block.{start_of, costs_after, block_words};
 ghost use Rattle.trellis.specs.Memory.{state_count, cost_in, observed_at};
 
+use crate::STATES;
 use crate::butterfly::{Section, step};
 use codebits::{BLOCK_BITS, BLOCK_CODE_BITS, TAIL_BITS};
 use costs::{CostKind, Observation};
-
-// How many states there are, and so how many costs a bank has.
-const STATES: usize = 64;
 
 // Whether the bit that step k drops is one of the PSDU's: that of place k - 6.
 fn is_free(k: usize, octets: u16) -> bool
@@ -24,6 +22,7 @@ fn begin<K: CostKind>(block: usize, one: &mut [K])
     ensures { (s : ℕ) → s < length one.old → cost_in K.CostKind.kind one.new 0 s ≡ start_of K.CostKind.kind block one.old s }
 {
     if block == 0 {
+        // No `fill`, which asks that a clone cannot fail: of a kind of cost only a copy is known.
         for cost in one.iter_mut() {
             *cost = K::nothing();
         }
@@ -49,11 +48,13 @@ pub fn run<K: CostKind>(
     let (two, _rest) = rest.split_at_mut(STATES);
     begin(block, one);
     for (k, word) in words.iter_mut().enumerate() {
+        // Two code bits to a step, read by its number: the library's pairs would be read by it too.
         let section = Section {
             free: is_free(first + k, octets),
             first: observed[2 * k],
             second: observed[2 * k + 1],
         };
+        // The turn of the banks is the step's number, and no choice that could be handed in.
         *word = if k % 2 == 0 {
             step(one, two, section)
         } else {

@@ -1,17 +1,15 @@
 // The decoder that this project replaces: it leaves tail and pad bits free, and starts its trace at the cheapest state.
 use codebits::{BLOCK_BITS, BLOCK_CODE_BITS};
 use costs::{CostKind, Count, Observation};
-use trellis::run_block;
-
-// The states of the trellis; the costs are two banks of so many.
-const STATES: usize = 64;
+use receiver::COSTS;
+use trellis::{STATES, run_block};
 
 // The octets that one block begins.
 const OCTETS: usize = BLOCK_BITS / 8;
 
 // The first eleven octets of what it traces from one block's observed code bits, and its cost.
 pub fn careless(observed: &[Observation; BLOCK_CODE_BITS]) -> ([u8; OCTETS], u32) {
-    let mut costs = [Count::nothing(); 2 * STATES];
+    let mut costs = [Count::nothing(); COSTS];
     let mut words = [0; BLOCK_BITS];
     run_block(observed, 0, OCTETS, &mut costs, &mut words);
     let (start, cost) = cheapest(&costs);
@@ -28,6 +26,7 @@ fn cheapest(costs: &[Count]) -> (usize, u32) {
     cheapest.map_or((0, 0), |(state, cost)| (state, cost.differing))
 }
 
+// Apart from the decoder of this project, as it shows another one.
 fn traced(words: &[u64; BLOCK_BITS], start: usize) -> [u8; OCTETS] {
     let mut octets = [0; OCTETS];
     let mut state = start % STATES;

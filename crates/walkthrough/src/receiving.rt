@@ -27,7 +27,7 @@ fn take_blocks<K: CostKind>(
     words: &mut [u64],
     chips: &[u8],
 ) {
-    for block in chips.chunks_exact(block_chips(line).max(1)) {
+    for block in chips.chunks_exact(block_chips(line)) {
         let _ = frame.block(line, costs, words, block);
     }
 }

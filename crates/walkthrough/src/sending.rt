@@ -22,12 +22,9 @@ pub fn send(heap: Global, band: Band, mode: RateMode, psdu: &[u8]) -> anyhow::Re
     let mut block = vec![in heap; 0; block_chips(&line)]?;
     let mut chips = Vec::new(heap);
     let mut cursor = Cursor::new(psdu, is_differential(band, mode), last);
-    // Block by block, to show the cursor; a whole frame is one call of `send_frame`. No PSDU has more blocks than it has octets.
-    for _ in psdu {
-        match cursor.next_block(&line, &mut block)? {
-            Some(_) => chips.extend_from_slice(&block)?,
-            None => break,
-        }
+    // Block by block, to show the cursor: a whole frame is one call of `send_frame`.
+    while let Some(_) = cursor.next_block(&line, &mut block)? {
+        chips.extend_from_slice(&block)?;
     }
     Ok(SentFrame {
         line,

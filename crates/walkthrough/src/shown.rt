@@ -15,7 +15,7 @@ pub fn chips_text(heap: Global, chips: &[u8]) -> Result<String, AllocError> {
     Ok(text)
 }
 
-// What became of a group.
+// What became of a group. Whether it came as sent is seen by this program, and the tie told by the line code: four cases, each with its words.
 pub fn verdict(as_sent: bool, tied: bool) -> &'static str {
     match (as_sent, tied) {
         (true, false) => "as sent, and sure",

@@ -1,5 +1,6 @@
 // The calls of a receiver: begin, block, close and abandon.
-ghost use Rattle.std.specs.Prelude.{◌≡◌, Ok};
+ghost use Rattle.std.specs.Prelude.{◌≡◌, ◌+◌, Ok};
+ghost use Rattle.codebits.specs.Message.{blocks};
 ghost use Rattle.receiver.specs.Judging.{memory_judged, room_judged, close_judged};
 ghost use Rattle.receiver.specs.Receiver.{begun, octets, block_step, close_step};
 ghost use Rattle.receiver.specs.Promise.{NearestOfEveryList};
@@ -14,7 +15,7 @@ use reading::read_block;
 use trellis::{run_block, trace};
 
 // Refusal 1: too few costs, or too few words for the message.
-// Costs and words stay two slices, and here two numbers: a block writes both and a close only reads them, so that one type for the two would be two types, and the refusal tells which is short.
+// Costs and words stay two slices, and here two numbers: a block writes both and a close only reads them, which would take two structs, and a refusal tells which of them is short.
 fn judge_memory(octets: u16, costs: usize, words: usize) -> Result<(), Fault>
     ensures { result ≡ memory_judged octets costs words (Ok tt) }
 {
@@ -135,6 +136,13 @@ impl OpenFrame {
                 (listening, Ok(costs[0]))
             }
         }
+    }
+
+    // How many blocks the frame still lacks.
+    pub fn blocks_left(&self) -> u32
+        ensures answer { self.now.accepted + result ≡ blocks (octets self.now.header) }
+    {
+        block_count(self.header.length()) - self.accepted
     }
 
     // Ends the frame without a PSDU.

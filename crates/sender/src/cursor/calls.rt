@@ -16,7 +16,7 @@ use linecode::lines::LineCode;
 
 impl<'a> Cursor<'a> {
     // A cursor at the first block, after the header's last encoded bit.
-    // The coding and that bit stay two parameters: a struct of them would be made at each call only to be taken apart here.
+    // The coding and that bit stay two parameters: a struct of the two would be made at each call only to be taken apart here.
     pub fn new(psdu: &'a [u8], differential: bool, last: bool) -> Cursor<'a>
         ensures state { result ≡ record { psdu = psdu.entry.now; differential = differential; last = last; block = 0 } }
     {
@@ -57,7 +57,7 @@ impl<'a> Cursor<'a> {
         bits.last()
     }
 
-    // Moves on by a block, and writes its chips.
+    // Moves on by a block, and writes its chips. That a block is left is a fact of this call and of what it calls, and of no cursor that is done.
     fn advance<L: LineCode>(&mut self, line: &L, chips: &mut [u8])
         requires few { self.old.block < 187 }
         requires room { length chips.old ≡ block_chips (L.LineCode.code line.now) }
@@ -108,6 +108,7 @@ impl<'a> Cursor<'a> {
         ensures state { self.new ≡ state_after (L.LineCode.code line.now) self.old (block_chips (L.LineCode.code line.now)) }
         ensures filled { Filled (L.LineCode.code line.now) self.new chips.new }
     {
+        // A part of lent memory, by the number of the block: a parted rest would have to come back to the caller.
         let size = block_chips(line);
         let from = self.block as usize * size;
         let end = chips.len().min(from + size);
@@ -118,11 +119,7 @@ impl<'a> Cursor<'a> {
     pub fn rest(&self) -> &'a [u8]
         ensures answer { result.now ≡ drop (11 * self.now.block) self.now.psdu }
     {
-        let begun = 11 * self.block as usize;
-        if begun >= self.psdu.len() {
-            return &[];
-        }
-        &self.psdu[begun..]
+        self.psdu.get(11 * self.block as usize..).unwrap_or(&[])
     }
 
     // The six message bits before the next block, the newest first.

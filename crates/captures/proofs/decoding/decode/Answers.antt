@@ -1,4 +1,4 @@
-use Rattle.std.proofs.Common.{◌≡◌, ◌≤◌, length, Option, Result, ap, ◌∙◌, arith}
+use Rattle.std.proofs.Common.{◌≡◌, ◌≤◌, length, Option, Result, ap, ◌∙◌, arith, rules}
 use Rattle.faults.specs.declared.Fault.{Fault}
 use Rattle.linecode.specs.Codes.{Code}
 use Rattle.bands.specs.Lines.{line_code, line_lawful}
@@ -22,7 +22,7 @@ returns-in-Ok g c =
     let s = state_of k c.hear.new.frame c.hear.new.costs c.hear.new.words in
     let heard = c.hear.ensures.state c.in-Ok.is in
     let short : octets h ≤ length room = omega (arith, c.requires.short, c.fits-psdu) in
-    let is = closed kind (blocks_run kind g.met.K.CostKind.lawful) k (line_lawful c.line-line.result) h c.args.costs.now _ input c.requires.costs (omega (arith, c.requires.short)) s heard room short in
+    let is = closed kind (blocks_run kind g.met.K.CostKind.lawful) k (line_lawful c.line-line.result) h _ _ input (search rules) (omega (arith, c.requires.short)) s heard room short in
     let by_header : frame_by k h ≡ frame_after (view h) = let made : Option Code → Frame = λ o. record { code = code_or o; differential = differential h; last = (view h).last; octets = octets h } in ap made c.line-line.ensures.answer in
     let r = close_step kind s.receiver s.costs s.words room in
     record { answer = ap (λ (x : Result g.row.K.Denot Fault). told (octets h) x c.close-cost.new.psdu) c.close-cost.ensures.answer ∙ (ap (told (octets h) r.answer) c.close-cost.ensures.memory ∙ (is ∙ ap (λ f. decoded kind f input) by_header)) }
