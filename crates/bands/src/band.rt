@@ -31,7 +31,7 @@ pub struct UnknownBand(pub u16);
 pub struct UnknownMode(pub u8);
 
 impl Band {
-    // The band's frequency in MHz, which is its name.
+    // The band's frequency in MHz, which is its name. A call and no `From`, as the rules speak of a number.
     pub fn number(self) -> u16
         ensures { result ≡ band_number self }
     {
@@ -56,6 +56,7 @@ impl TryFrom<u16> for Band {
 }
 
 impl RateMode {
+    // The mode's number, by a call as for a band.
     pub fn number(self) -> u8
         ensures { result ≡ mode_number self }
     {

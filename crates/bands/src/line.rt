@@ -16,7 +16,7 @@ pub enum BandLine {
     WhitenedStraight(Whitened<Straight>),
 }
 
-// The call, made of the code that is held. A rule of the gate: no function may hand that code out as a `dyn`.
+// The call, made of the code that is held. By a rule of the project no function hands that code out as a `dyn`.
 macro_rules! dispatch {
     ($self:ident, $line:ident => $call:expr) => {
         match $self {

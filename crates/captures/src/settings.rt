@@ -20,7 +20,7 @@ pub struct Settings {
 }
 
 // What a letter of section 1 stands for.
-// A trait of its own, and no `TryFrom`: the bands are another crate's, which knows no letters.
+// By a rule of the project letters are matched as such. A trait and no `TryFrom`, as bands are another crate's, which knows no letters, and both are read by one call.
 trait Lettered: Copy {
     ghost meant: { ℕ → Option Self };
 

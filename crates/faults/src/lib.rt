@@ -62,7 +62,7 @@ pub struct Fault {
 }
 
 impl FaultKind {
-    // The number of the refusal, from 1 to 16. A call by that name and no `From`: a band and a mode have theirs too.
+    // The number of the refusal, from 1 to 16. A call and no `From`, as the rules speak of a number.
     pub fn number(self) -> u8
         ensures { result ≡ numbered self }
     {

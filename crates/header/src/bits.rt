@@ -29,7 +29,7 @@ pub fn write_octets<L: LineCode>(line: &L, octets: &[u8], chips: &mut [u8]) -> b
 }
 
 // The bits of chips, one after the other. The chips are all 0 or 1.
-// Beside the bits that a cursor sends, which come out of code bits and not out of chips: what the two share is a place and a bit.
+// A cursor's bits are a struct of their own: they come out of code bits and not out of chips, and share no more than a place and a bit.
 #[derive(Drop)]
 pub struct HeardBits<'a, L: LineCode> {
     line: &'a L,

@@ -14,7 +14,7 @@ pub struct Register {
 }
 
 impl Register {
-    // The coder at rest, as before the first message bit. A derived `Default` says as much, and not of what.
+    // The coder at rest, as before the first message bit. No `Default`, which would not name the coder's rest.
     pub fn new() -> Register
         ensures { result.bits ≡ replicate 6 false }
     {

@@ -17,7 +17,7 @@ pub fn block_chips<L: LineCode>(line: &L) -> usize
     BLOCK_CODE_BITS / line.bits_per_group() as usize * line.chips_per_group()
 }
 
-// Writes all the chips of a PSDU, and answers how many blocks they are.
+// Writes all the chips of a PSDU, and answers how many blocks they are. The coding and the last bit are two parameters, as for a cursor, which takes them.
 pub fn send_frame<L: LineCode>(
     line: &L,
     psdu: &[u8],

@@ -52,7 +52,7 @@ pub fn octet(words: &[u64], i: usize, state: State) -> (u8, State)
 {
     let mut value: u8 = 0;
     let mut at = state;
-    // The words of one octet are cut out by its number, since the one who traces has them by octets.
+    // The words of one octet, by its number: whoever traces writes the octets by number too.
     for word in words[8 * i..8 * i + 8].iter().rev() {
         value = value * 2 + (at.number % 2) as u8;
         at = at.previous(*word);

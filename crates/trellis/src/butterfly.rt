@@ -33,7 +33,7 @@ impl Section {
     }
 }
 
-// Whether bit i of a state is 1. Such a test is one expression at each type of number, and so stands where it is used.
+// Whether bit i of a state is 1. A function of its own: the other layers ask this of other types of number, in one expression each.
 fn has(state: usize, i: u32) -> bool
     requires { i < 6 }
     ensures { result ≡ bit_at state i }

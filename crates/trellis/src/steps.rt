@@ -48,7 +48,7 @@ pub fn run<K: CostKind>(
     let (two, _rest) = rest.split_at_mut(STATES);
     begin(block, one);
     for (k, word) in words.iter_mut().enumerate() {
-        // Two code bits to a step, read by its number: the library's pairs would be read by it too.
+        // The two code bits of a step are read by its number, as the free bit is: pairs cut by the library would need it too.
         let section = Section {
             free: is_free(first + k, octets),
             first: observed[2 * k],
