@@ -1,32 +1,16 @@
--- The text of octets in hexadecimal is that of the crate that writes it, and stands in the lines.
+-- One octet more in hexadecimal, and one text after another.
 -- Assumes nothing.
-use Rattle.std.proofs.Common.{◌≡◌, ℕ, zero, suc, ◌/◌, ◌%◌, ◌<◌, Bool, true, ◌&&◌, List, [], ◌∷◌, ◌++◌, codes, decimal, append_assoc, eqb, slice_index, slice_index_or, refl, arith}
-use Rattle.std.proofs.lemmas.Bool.Decides.{Decides-below_and, Decides-eqb}
-use Rattle.hex.specs.Hex.{lower_digits, encode_with, encode_lower}
-use Rattle.captures.specs.declared.cost.Cost.{Cost}
-use Rattle.captures.specs.Lines.{hex_digit, hex_of, cost_text, newline, frame_lines}
+use Rattle.std.proofs.Common.{◌≡◌, ℕ, ◌+◌, ◌/◌, ◌%◌, ◌<◌, List, [], ◌∷◌, ◌++◌, length, get_or, take, refl, ap, ◌∙◌, append_assoc}
+use Rattle.std.proofs.lemmas.List.{take_more}
+use Rattle.captures.specs.Lines.{hex_digit, hex_of}
 
-abbrev same_digit : ℕ → Bool
-same_digit d = eqb (slice_index lower_digits d) (hex_digit d)
+hex_of_append : (xs ys : List ℕ) → hex_of (xs ++ ys) ≡ hex_of xs ++ hex_of ys
+hex_of_append [] ys = refl
+hex_of_append (x ∷ xs) ys = ap (λ l. hex_digit (x / 16) ∷ hex_digit (x % 16) ∷ l) (hex_of_append xs ys)
 
-abbrev same_digits : ℕ → Bool
-same_digits zero = true
-same_digits (suc n) = same_digit n && same_digits n
+pub hex_of_more : (xs : List ℕ) (i : ℕ) → i < length xs → hex_of (take (i + 1) xs) ≡ hex_of (take i xs) ++ hex_of (get_or xs i 0 ∷ [])
+hex_of_more xs i h = ap hex_of (take_more xs i 0 h) ∙ hex_of_append (take i xs) (get_or xs i 0 ∷ [])
 
-digit : (d : ℕ) → d < 16 → slice_index lower_digits d ≡ hex_digit d
-digit = (Decides-below_and same_digit (λ d. slice_index lower_digits d ≡ hex_digit d) same_digits (λ d. Decides-eqb _ _) refl (λ _. refl) 16).0 refl
-
-pub written : (bs : List ℕ) → ((i : ℕ) → slice_index_or bs i 0 < 256) → encode_lower bs ≡ hex_of bs
-unfolding encode_with
-written [] h = refl
-written (b ∷ bs) h =
-    let small = h 0 in
-    let high = digit (b / 16) (omega (arith, small)) in
-    let low = digit (b % 16) (omega arith) in
-    let rest = written bs (λ i. h (suc i)) in
-    rw (high, low, rest) refl
-
--- the lines as they are printed, piece by piece
-pub all_lines : (m l : ℕ) (cost : Cost) (psdu digits : List ℕ) → digits ≡ hex_of psdu →
-    codes "frame " ++ (decimal m ++ (codes " " ++ (decimal l ++ (codes "\ncost " ++ (cost_text cost ++ (newline ++ (digits ++ newline))))))) ≡ frame_lines m l cost psdu
-all_lines m l cost psdu digits e = simp (e, append_assoc) refl
+-- one text after another
+pub joined : (a b c : List ℕ) {t0 t1 t2 : List ℕ} → t0 ≡ a → t1 ≡ t0 ++ b → t2 ≡ t1 ++ c → t2 ≡ a ++ (b ++ c)
+joined a b c p q r = r ∙ ap (λ l. l ++ c) (q ∙ ap (λ l. l ++ b) p) ∙ append_assoc a b c

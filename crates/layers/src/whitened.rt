@@ -32,9 +32,9 @@ impl<L: LineCode> LineCode for Whitened<L> {
 
     fn despread(&self, position: u32, chips: &[u8]) -> Result<(u32, bool), Fault> {
         self.judge_chips(chips)?;
-        // No heap, so the plain chips take a part of the longest group that there is.
+        // No heap, so the plain chips take a part of the longest group that there is: of the line code's own number, which the compiler knows where it is one.
         let mut longest = [0; 128];
-        let plain = &mut longest[..chips.len()];
+        let plain = &mut longest[..self.chips_per_group()];
         plain.copy_from_slice(chips);
         whiten_group(position, plain);
         self.line.despread(position, plain)

@@ -9,11 +9,19 @@ pub fn judge(layer: Layer, count: usize, chips: &[u8]) -> Result<(), Fault>
     ensures { result ≡ judged layer count chips.now }
 {
     if chips.len() != count {
-        return Err(layer.refusal(FaultKind::ChipCount, chips.len()));
+        return Err(Fault {
+            kind: FaultKind::ChipCount,
+            place: chips.len(),
+            layer,
+        });
     }
     for (i, c) in chips.iter().enumerate() {
         if *c > 1 {
-            return Err(layer.refusal(FaultKind::ChipValue, i));
+            return Err(Fault {
+                kind: FaultKind::ChipValue,
+                place: i,
+                layer,
+            });
         }
     }
     Ok(())

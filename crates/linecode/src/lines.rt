@@ -29,14 +29,23 @@ pub trait LineCode {
     }
 
     // The room for a word, in chips, is judged first, then the value that is to be spread.
+    // Refusals are made here and in `judge`, and not by `Layer::refusal`, whose answer would be copied on its way out, also where nothing is refused: sending would take up to 1.4 times as long.
     fn judge_value(&self, value: u32, room: usize) -> Result<(), Fault>
         ensures { result ≡ spread_answer (code self.now) value room }
     {
         if room != self.chips_per_group() {
-            return Err(Layer::Line.refusal(FaultKind::ChipCount, room));
+            return Err(Fault {
+                kind: FaultKind::ChipCount,
+                place: room,
+                layer: Layer::Line,
+            });
         }
         if value >= 1 << self.bits_per_group() {
-            return Err(Layer::Line.refusal(FaultKind::GroupValue, value as usize));
+            return Err(Fault {
+                kind: FaultKind::GroupValue,
+                place: value as usize,
+                layer: Layer::Line,
+            });
         }
         Ok(())
     }

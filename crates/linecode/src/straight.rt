@@ -21,9 +21,12 @@ impl LineCode for Straight {
     }
 
     fn spread(&self, position: u32, value: u32, chips: &mut [u8]) -> Result<(), Fault> {
-        self.judge_value(value, chips.len())?;
-        chips[0] = value as u8;
-        Ok(())
+        // Handed on as it is, by the same measure as in `judge_value`.
+        let judged = self.judge_value(value, chips.len());
+        if judged.is_ok() {
+            chips[0] = value as u8;
+        }
+        judged
     }
 
     fn despread(&self, position: u32, chips: &[u8]) -> Result<(u32, bool), Fault> {

@@ -54,9 +54,12 @@ impl LineCode for TableCode {
     }
 
     fn spread(&self, _position: u32, value: u32, chips: &mut [u8]) -> Result<(), Fault> {
-        self.judge_value(value, chips.len())?;
-        self.write_word(value as usize, chips);
-        Ok(())
+        // Handed on as it is, by the same measure as in `judge_value`.
+        let judged = self.judge_value(value, chips.len());
+        if judged.is_ok() {
+            self.write_word(value as usize, chips);
+        }
+        judged
     }
 
     fn despread(&self, _position: u32, chips: &[u8]) -> Result<(u32, bool), Fault> {

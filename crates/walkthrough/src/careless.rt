@@ -1,4 +1,6 @@
 // The decoder that this project replaces: it leaves tail and pad bits free, and starts its trace at the cheapest state.
+ghost use Rattle.std.specs.Prelude.{◌<◌};
+
 use codebits::{BLOCK_BITS, BLOCK_CODE_BITS};
 use costs::{CostKind, Count, Observation};
 use receiver::COSTS;
@@ -17,7 +19,9 @@ pub fn careless(observed: &[Observation; BLOCK_CODE_BITS]) -> ([u8; OCTETS], u32
 }
 
 // The first of the cheapest states, and its cost, both in the first bank.
-fn cheapest(costs: &[Count]) -> (usize, u32) {
+fn cheapest(costs: &[Count]) -> (usize, u32)
+    ensures { result.0 < 64 }
+{
     let cheapest = costs
         .iter()
         .take(STATES)

@@ -2,7 +2,7 @@
 use crate::careless::careless;
 use crate::receiving::receive;
 use crate::sending::{SentFrame, send};
-use crate::shown::chips_text;
+use crate::shown::{chips_text, hex_text};
 use bands::{Band, RateMode, psdu_line};
 use codebits::BLOCK_CODE_BITS;
 use costs::{Count, Graded, Observation};
@@ -59,8 +59,8 @@ fn first_groups(rt: &HostRuntime, sent: &SentFrame) -> anyhow::Result<String> {
 fn show_received(rt: &HostRuntime, header: Header, sent: &SentFrame) -> anyhow::Result<()> {
     let count = receive::<Count>(rt.alloc(), header, &sent.line, &sent.chips)?;
     let graded = receive::<Graded>(rt.alloc(), header, &sent.line, &sent.chips)?;
-    let by_count = hex::encode(rt.alloc(), &count.psdu)?;
-    let by_graded = hex::encode(rt.alloc(), &graded.psdu)?;
+    let by_count = hex_text(rt.alloc(), &count.psdu)?;
+    let by_graded = hex_text(rt.alloc(), &graded.psdu)?;
     let Count { differing } = count.told?;
     let Graded { sure, doubtful } = graded.told?;
     println!(rt; "  count {differing}: {by_count}; graded {sure} {doubtful}: {by_graded}")?;
@@ -156,8 +156,8 @@ fn compare(rt: &HostRuntime, psdu: &[u8]) -> anyhow::Result<()> {
     let _ = read_block(&sent.line, false, 0, first, &sent.chips, &mut observed)?;
     let (octets, cost) = careless(&observed);
     let whole = psdu.len().min(octets.len());
-    let careless = hex::encode(rt.alloc(), &octets[..whole])?;
-    let was = hex::encode(rt.alloc(), psdu)?;
+    let careless = hex_text(rt.alloc(), &octets[..whole])?;
+    let was = hex_text(rt.alloc(), psdu)?;
     println!(rt; "sent {was}; cheapest state: {careless}, cost {cost}")?;
     show_received(rt, header, &sent)
 }

@@ -15,6 +15,15 @@ pub fn chips_text(heap: Global, chips: &[u8]) -> Result<String, AllocError> {
     Ok(text)
 }
 
+// Octets in hexadecimal.
+pub fn hex_text(heap: Global, octets: &[u8]) -> Result<String, AllocError> {
+    let mut text = String::new(heap);
+    for octet in octets {
+        write!(text, "{octet:02x}")?;
+    }
+    Ok(text)
+}
+
 // What became of a group. Whether it came as sent is seen by this program, and the tie told by the line code: four cases, each with its words.
 pub fn verdict(as_sent: bool, tied: bool) -> &'static str {
     match (as_sent, tied) {

@@ -1,5 +1,5 @@
 // The calls of a receiver: begin, block, close and abandon.
-ghost use Rattle.std.specs.Prelude.{◌≡◌, ◌+◌, Ok};
+ghost use Rattle.std.specs.Prelude.{◌≡◌, ◌+◌, ◌≤◌, Ok};
 ghost use Rattle.codebits.specs.Message.{blocks};
 ghost use Rattle.receiver.specs.Judging.{memory_judged, room_judged, close_judged};
 ghost use Rattle.receiver.specs.Receiver.{begun, octets, block_step, close_step};
@@ -42,6 +42,7 @@ impl Listening {
     // Opens a frame for this header.
     pub fn begin(self, header: Header) -> (OpenFrame, Ticket)
         ensures state { result.0 ≡ begun header }
+        ensures room { result.0.accepted ≤ blocks (octets result.0.header) }
     {
         let Listening { unit } = self;
         let frame = OpenFrame {
@@ -94,6 +95,7 @@ impl OpenFrame {
         ensures state { self.new ≡ (block_step K.CostKind.kind (L.LineCode.code line.now) self.old costs.old words.old chips.now).frame }
         ensures costs { costs.new ≡ (block_step K.CostKind.kind (L.LineCode.code line.now) self.old costs.old words.old chips.now).costs }
         ensures words { words.new ≡ (block_step K.CostKind.kind (L.LineCode.code line.now) self.old costs.old words.old chips.now).words }
+        ensures room { self.new.accepted ≤ blocks (octets self.new.header) }
     {
         self.judge_room(costs.len(), words.len())?;
         let differential = self.header.differential();

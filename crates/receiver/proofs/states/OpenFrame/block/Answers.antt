@@ -1,4 +1,4 @@
-use Rattle.std.proofs.Common.{◌≡◌, ◌+◌, map, Ok, sym, ap, ◌∙◌}
+use Rattle.std.proofs.Common.{◌≡◌, ◌+◌, map, Ok, sym, ap, ◌∙◌, rules}
 use Rattle.std.specs.List.{range_with_len}
 use Rattle.costs.specs.declared.Observation.{Observation}
 use Rattle.reading.specs.Reading.{block_seen, read_answer}
@@ -34,4 +34,5 @@ returns g c =
       state = ap (λ (o : Open). made o c.in_ok-last.last) same ∙ (ap (made f) both.1 ∙ sym (ap (λ (b : Blocked g.row.K.Denot). b.frame) step));
       costs = c.run_block.ensures.memory.0 ∙ (ap (λ n. costs_after g.K.CostKind.kind c.read_block.new.observed n i.accepted costs) L ∙ (ap (λ b. costs_after g.K.CostKind.kind c.read_block.new.observed (octets f.header) b costs) at) ∙ (ap (λ os. costs_after g.K.CostKind.kind os (octets f.header) f.accepted costs) seen ∙ sym (ap (λ (b : Blocked g.row.K.Denot). b.costs) step)));
       words = c.run_block.ensures.memory.1 ∙ (ap (λ n. words_after g.K.CostKind.kind c.read_block.new.observed n i.accepted costs words) L ∙ (ap (λ b. words_after g.K.CostKind.kind c.read_block.new.observed (octets f.header) b costs words) at) ∙ (ap (λ os. words_after g.K.CostKind.kind os (octets f.header) f.accepted costs words) seen ∙ sym (ap (λ (b : Blocked g.row.K.Denot). b.words) step)));
+      room = search rules;
     }

@@ -6,9 +6,9 @@ use Rattle.tables.proofs.code.TableCode.word.Goals as goal
 pub returns-clause-chips : goal.returns-clause-chips
 returns-clause-chips c =
     let digits = c.digits.result.now in
-    let n = c.chips_per_group-n.result in
+    let n = c.args.n in
     let start = c.args.value * n in
     let whole : start + n - start ≡ n = omega arith in
     ap (λ m. word_of (take m (drop start digits))) whole
-    ∙ ap (λ m. word_of (part m digits c.args.value)) c.chips_per_group-n.ensures
-    ∙ word_at c.args.self digits c.digits.ensures c.args.value c.requires
+    ∙ ap (λ m. word_of (part m digits c.args.value)) c.requires.long
+    ∙ word_at c.args.self digits c.digits.ensures c.args.value c.requires.known
